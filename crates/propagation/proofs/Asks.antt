@@ -16,7 +16,7 @@ use Rattle.cdcl_rules.specs.State.{clause_at}
 use Rattle.propagation.specs.Visit.{Grows, IsFit}
 use Rattle.clause_store.specs.Pairs.{pair_in}
 use Rattle.propagation.specs.Added.{Outlasts}
-use Rattle.propagation.proofs.Filters.{clause_is, tests_one, count_one, count_two, pending_off, any_from_has, has_get, pending_at}
+use Rattle.propagation.proofs.Filters.{clause_is, tests_one, count_one, count_some, count_two, any_from_has, has_get, pending_at}
 use Rattle.propagation.proofs.Assigns.{equal_of, apart_of, opposite_twice, not_false, true_in_take}
 
 -- the literals of a clause that is read
@@ -169,17 +169,37 @@ last_true trail x = has-snoc trail x x ∙ by (has_literal trail x)
 pub unit_below : (cl : List (List ℕ)) (on : ℕ → Bool) (k unit codes : ℕ) → IsFit cl codes → IsUnit on (clause_at cl k) unit → unit < codes
 unit_below cl on k unit codes fit a = omega (arith, fit.below k a.place a.inside, a.own)
 
--- the unit literal of a pending clause is the one that is not false, or the first one where all are false
-pub unit_found : (on : ℕ → Bool) (xs : List ℕ) (i : ℕ) → i < length xs → is_free on (get_or xs i 0) ≡ true → is_pending on xs ≡ true
-    → IsUnit on xs (get_or xs i 0)
-unit_found on xs i h f p = record { place = i; inside = h; own = refl; others = λ j g ne. by j g ne (is_free on (get_or xs j 0)) refl }
+-- of a clause without a literal that is not false each is false
+pub none_open : (on : ℕ → Bool) (xs : List ℕ) (i : ℕ) → i < length xs → filter (is_free on) xs ≡ [] → is_free on (get_or xs i 0) ≡ false
+none_open on xs i h e = by (is_free on (get_or xs i 0)) refl
   where
-    by : (j : ℕ) → j < length xs → (j ≡ i → ⊥) → (b : Bool) → is_free on (get_or xs j 0) ≡ b → b ≡ false
-    by j g ne false e = refl
-    by j g ne true e = let z : true ≡ false = sym p ∙ pending_off on xs (count_two (is_free on) xs j i g h ne e f) in cc
+    by : (b : Bool) → is_free on (get_or xs i 0) ≡ b → b ≡ false
+    by true f = absurd (omega (arith, count_some (is_free on) xs i h f, ap (λ (ys : List ℕ). length ys) e))
+    by false f = refl
 
-pub unit_none : (on : ℕ → Bool) (xs : List ℕ) → ((j : ℕ) → j < length xs → is_free on (get_or xs j 0) ≡ false) → 0 < length xs → IsUnit on xs (get_or xs 0 0)
-unit_none on xs h g = record { place = 0; inside = g; own = refl; others = λ j l ne. h j l }
+-- where one element of a list passes a test, it has a place
+place_of : (p : ℕ → Bool) (xs : List ℕ) (l : ℕ) → filter p xs ≡ l ∷ [] → (k : ℕ) × (k < length xs) × (get_or xs k 0 ≡ l) × (p l ≡ true)
+place_of p [] l e = absurd (let w : ⊥ = cc in w)
+place_of p (x ∷ xs) l e = by (p x) refl e (place_of p xs l)
+  where
+    by : (b : Bool) → p x ≡ b → (if b then x ∷ filter p xs else filter p xs) ≡ l ∷ []
+        → (filter p xs ≡ l ∷ [] → (k : ℕ) × (k < length xs) × (get_or xs k 0 ≡ l) × (p l ≡ true))
+        → (k : ℕ) × (k < length (x ∷ xs)) × (get_or (x ∷ xs) k 0 ≡ l) × (p l ≡ true)
+    by true f g next = let q : x ≡ l = cc in (0, omega arith, q, ap p (sym q) ∙ f)
+    by false f g next = let r = next g in (suc r.0, omega (arith, r.1), r.2, r.3)
+
+-- of a clause with one literal that is not false this is its unit literal
+pub one_open : (on : ℕ → Bool) (xs : List ℕ) (l : ℕ) → filter (is_free on) xs ≡ l ∷ [] → IsUnit on xs l
+one_open on xs l e =
+    let at = place_of (is_free on) xs l e in
+    record { place = at.0; inside = at.1; own = at.2; others = λ j g ne. by j g ne (is_free on (get_or xs j 0)) refl }
+  where
+    by : (j : ℕ) → j < length xs → (j ≡ (place_of (is_free on) xs l e).0 → ⊥) → (b : Bool) → is_free on (get_or xs j 0) ≡ b → b ≡ false
+    by j g ne false f = refl
+    by j g ne true f =
+        let at = place_of (is_free on) xs l e in
+        let two = count_two (is_free on) xs j at.0 g at.1 ne f (ap (is_free on) at.2 ∙ at.3) in
+        absurd (omega (arith, two, ap (λ (ys : List ℕ). length ys) e))
 
 -- a test cannot be true and false
 pub clash : {X : Type 0} → true ≡ false → X

@@ -1,12 +1,15 @@
 -- For how long along the trail a literal is not false.
-use Rattle.std.proofs.Common.{arith, ◌≡◌, ◌==◌, ℕ, zero, suc, ◌+◌, ◌<◌, ◌≤◌, List, [], ◌∷◌, length, take, get_or, leb, ltb, Bool, true, false, not, refl, sym, ap, ◌∙◌, subst}
+use Rattle.std.proofs.Common.{arith, ◌≡◌, ◌≢◌, ◌==◌, ℕ, zero, suc, ◌+◌, ◌<◌, ◌≤◌, List, [], ◌∷◌, length, take, get_or, leb, ltb, Bool, true, false, not, refl, sym, ap, ◌∙◌, subst}
 use Rattle.std.proofs.lemmas.Bool.Decides.{nat_tests}
 use Rattle.std.proofs.lemmas.List.{take_all}
 use Rattle.clause_base.specs.Literal.{opposite}
 use Rattle.clause_base.specs.Clause.{has_literal}
 use Rattle.propagation.specs.Pending.{is_free}
+use Rattle.propagation.specs.declared.fall.Latest.{Latest}
 use Rattle.propagation.specs.Added.{Outlasts}
-use Rattle.propagation.proofs.Assigns.{true_in_take, at_most_of, tests_at_most}
+use Rattle.propagation.specs.Latest.{IsFreeUntil, AreLatest}
+use Rattle.propagation.proofs.Asks.{below_more}
+use Rattle.propagation.proofs.Assigns.{equal_of, apart_of, true_in_take, at_most_of, tests_at_most}
 
 not_before : (a b : ℕ) → not (ltb a b) ≡ leb b a
 not_before a b = grind (arith, nat_tests)
@@ -45,21 +48,67 @@ outlasts_by trail l other a b p q h n k f =
 pub outlasts_itself : (trail : List ℕ) (l : ℕ) → Outlasts trail l l
 outlasts_itself trail l n h f = f
 
--- the best of one place more
-pub most_next : (trail clause : List ℕ) (skipped place best next : ℕ)
-    → ((p : ℕ) → p < place → (p ≡ skipped → ⊥) → Outlasts trail (get_or clause best 0) (get_or clause p 0))
-    → Outlasts trail (get_or clause next 0) (get_or clause best 0)
-    → ((place ≡ skipped → ⊥) → Outlasts trail (get_or clause next 0) (get_or clause place 0)) → (p : ℕ) → p < place + 1 → (p ≡ skipped → ⊥)
-    → Outlasts trail (get_or clause next 0) (get_or clause p 0)
-most_next trail clause skipped place best next most keeps takes p h other = by (p == place) refl
+-- the first two places, in either order
+pub first_two : (trail clause : List ℕ) (v a b one other : ℕ) → a < 2 → b < 2 → (b ≡ a → ⊥) → IsFreeUntil trail (get_or clause a 0) v one
+    → IsFreeUntil trail (get_or clause b 0) v other → other ≤ one → AreLatest trail clause v 2 (record { first = a; first_until = one; second = b; second_until = other })
+first_two trail clause v a b one other a_in b_in apart p q h = record {
+  first_in = a_in;
+  second_in = b_in;
+  apart = apart;
+  first_until = p;
+  second_until = q;
+  most = λ i l. most i l (i == a) refl;
+  next = λ i l ne. subst (λ (k : ℕ). Outlasts trail (get_or clause b 0) (get_or clause k 0)) (rest i l ne) (outlasts_itself trail (get_or clause b 0));
+}
   where
-    by : (b : Bool) → (p == place) ≡ b → Outlasts trail (get_or clause next 0) (get_or clause p 0)
-    by true e =
-        let same : place ≡ p = grind (arith, nat_tests) in
-        subst (λ (q : ℕ). (q ≡ skipped → ⊥) → Outlasts trail (get_or clause next 0) (get_or clause q 0)) same takes other
-    by false e =
-        let less : p < place = grind (arith, nat_tests) in
-        λ n k f. keeps n k (most p less other n k f)
+    rest : (i : ℕ) → i < 2 → (i ≡ a → ⊥) → b ≡ i
+    rest i l ne = let n : i ≢ a = ne in let m : b ≢ a = apart in omega (arith, l, a_in, b_in, n, m)
+
+    most : (i : ℕ) → i < 2 → (same : Bool) → (i == a) ≡ same → Outlasts trail (get_or clause a 0) (get_or clause i 0)
+    most i l true e = subst (λ (k : ℕ). Outlasts trail (get_or clause a 0) (get_or clause k 0)) (sym (equal_of i a e)) (outlasts_itself trail (get_or clause a 0))
+    most i l false e =
+        subst (λ (k : ℕ). Outlasts trail (get_or clause a 0) (get_or clause k 0)) (rest i l (apart_of i a e))
+        (outlasts_by trail (get_or clause a 0) (get_or clause b 0) one other p.lasts q.lasts h)
+
+-- one place more
+latest_more : (trail clause : List ℕ) (v place : ℕ) (two new : Latest) → AreLatest trail clause v place two → new.first < place + 1 → new.second < place + 1
+    → (new.second ≡ new.first → ⊥) → IsFreeUntil trail (get_or clause new.first 0) v new.first_until → IsFreeUntil trail (get_or clause new.second 0) v new.second_until
+    → Outlasts trail (get_or clause new.first 0) (get_or clause two.first 0) → Outlasts trail (get_or clause new.first 0) (get_or clause place 0)
+    → ((p : ℕ) → p < place → (p ≡ new.first → ⊥) → Outlasts trail (get_or clause new.second 0) (get_or clause p 0))
+    → ((place ≡ new.first → ⊥) → Outlasts trail (get_or clause new.second 0) (get_or clause place 0)) → AreLatest trail clause v (place + 1) new
+latest_more trail clause v place two new i first_in second_in apart first_until second_until keeps takes others own = record {
+  first_in = first_in;
+  second_in = second_in;
+  apart = apart;
+  first_until = first_until;
+  second_until = second_until;
+  most = below_more (λ p. Outlasts trail (get_or clause new.first 0) (get_or clause p 0)) place (λ p l n k f. keeps n k (i.most p l n k f)) takes;
+  next = below_more (λ p. (p ≡ new.first → ⊥) → Outlasts trail (get_or clause new.second 0) (get_or clause p 0)) place others own;
+}
+
+-- its literal is not false for longer than both, for longer than the second, or for no longer
+pub place_first : (trail clause : List ℕ) (v place until : ℕ) (two : Latest) → AreLatest trail clause v place two → IsFreeUntil trail (get_or clause place 0) v until
+    → two.first_until ≤ until → AreLatest trail clause v (place + 1) (record { first = place; first_until = until; second = two.first; second_until = two.first_until })
+place_first trail clause v place until two i q h =
+    latest_more trail clause v place two _ i (omega arith) (omega (arith, i.first_in)) (λ (e : two.first ≡ place). absurd (omega (arith, e, i.first_in))) q i.first_until
+    (outlasts_by trail (get_or clause place 0) (get_or clause two.first 0) until two.first_until q.lasts i.first_until.lasts h)
+    (outlasts_itself trail (get_or clause place 0)) (λ p l ne. i.most p l) (λ ne. absurd (ne refl))
+
+pub place_second : (trail clause : List ℕ) (v place until : ℕ) (two : Latest) → AreLatest trail clause v place two → IsFreeUntil trail (get_or clause place 0) v until
+    → until ≤ two.first_until → two.second_until ≤ until
+    → AreLatest trail clause v (place + 1) (record { first = two.first; first_until = two.first_until; second = place; second_until = until })
+place_second trail clause v place until two i q h g =
+    latest_more trail clause v place two _ i (omega (arith, i.first_in)) (omega arith) (λ (e : place ≡ two.first). absurd (omega (arith, e, i.first_in))) i.first_until q
+    (outlasts_itself trail (get_or clause two.first 0)) (outlasts_by trail (get_or clause two.first 0) (get_or clause place 0) two.first_until until i.first_until.lasts q.lasts h)
+    (λ p l ne n k f. outlasts_by trail (get_or clause place 0) (get_or clause two.second 0) until two.second_until q.lasts i.second_until.lasts g n k (i.next p l ne n k f))
+    (λ ne. outlasts_itself trail (get_or clause place 0))
+
+pub place_neither : (trail clause : List ℕ) (v place until : ℕ) (two : Latest) → AreLatest trail clause v place two → IsFreeUntil trail (get_or clause place 0) v until
+    → until ≤ two.first_until → until ≤ two.second_until → AreLatest trail clause v (place + 1) two
+place_neither trail clause v place until two i q h g =
+    latest_more trail clause v place two two i (omega (arith, i.first_in)) (omega (arith, i.second_in)) i.apart i.first_until i.second_until
+    (outlasts_itself trail (get_or clause two.first 0)) (outlasts_by trail (get_or clause two.first 0) (get_or clause place 0) two.first_until until i.first_until.lasts q.lasts h)
+    i.next (λ ne. outlasts_by trail (get_or clause two.second 0) (get_or clause place 0) two.second_until until i.second_until.lasts q.lasts g)
 
 -- before any literal is true none is false
 pub outlasts_none : (trail : List ℕ) (l other : ℕ) → length trail ≡ 0 → Outlasts trail l other

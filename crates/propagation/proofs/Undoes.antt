@@ -1,6 +1,6 @@
 -- The tables where the trail is taken back: the watched literals stay right, and the set is found anew.
 use Rattle.std.proofs.Common.{arith, ◌≡◌, ℕ, zero, suc, [], ◌∷◌, ◌≤◌, List, Bool, length, take, refl, sym, ap, ◌∙◌, subst}
-use Rattle.std.proofs.lemmas.List.{take-take, take-map, length-take-le, length-map}
+use Rattle.std.proofs.lemmas.List.{take_all, take-take, take-map, length-take-le, length-map}
 use Rattle.cdcl_rules.specs.declared.trail.Assigned.{Assigned}
 use Rattle.cdcl_trail.specs.Assignment.{literals}
 use Rattle.cdcl_trail.proofs.Assignments.{literals_back, back_le}
@@ -66,16 +66,4 @@ undo_sound v t l trail quiet m trail' p i e h asks complete = record {
 -- the set alone is another
 pub sound_set : (v : ℕ) (t : Tables) (l : Lists) (trail : List ℕ) (quiet : List Bool) (p : Pending) → AreSound v t l trail quiet
     → HasAsks t.store trail p → IsComplete (pending_in t trail) p → AreSound v t (record l { pending = p }) trail quiet
-sound_set v t l trail quiet p i asks complete = record {
-  small = i.small;
-  tables = i.tables;
-  few = i.few;
-  slots_few = i.slots_few;
-  rest = i.rest;
-  free = i.free;
-  consistent = i.consistent;
-  asks = asks;
-  complete = complete;
-  quiet_size = i.quiet_size;
-  quiets = i.quiets;
-}
+sound_set v t l trail quiet p i asks complete = undo_sound v t l trail quiet (length trail) trail p i (sym (take_all (length trail) trail (omega arith))) (omega arith) asks complete

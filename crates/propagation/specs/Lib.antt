@@ -1,10 +1,12 @@
 pub mod Pending
 pub mod Visit
 pub mod Asks
+pub mod Status
 pub mod Back
 pub mod Front
 pub mod Pairs
 pub mod Tables
 pub mod Sound
 pub mod Added
+pub mod Latest
 pub mod Given

@@ -5,7 +5,7 @@ ghost use Rattle.clause_base.specs.Clause.{IsClause, has_literal};
 ghost use Rattle.propagation.specs.Asks.{IsAsk};
 ghost use Rattle.propagation.specs.Added.{HasSlotRoom, IsLoose, RestsWith, FreeWith, IsQuietBelow};
 
-use crate::fall::{free_until, latest};
+use crate::fall::latest_two;
 use crate::visit::Lists;
 use cdcl_trail::assignment::Assignment;
 use clause_base::literal::Lit;
@@ -18,9 +18,6 @@ pub struct Entered {
     pub low: u32,
     pub ask: u32,
 }
-
-/// No place of a clause.
-const NOWHERE: u32 = 4_294_967_295;
 
 impl Lists {
     /// Watches two literals of a new clause.
@@ -39,14 +36,15 @@ impl Lists {
         ensures ask { result.low ≤ length assignment.now.trail → IsAsk (has_literal assignment.now.trail) clause.now result.ask }
         ensures pending { self.new.pending ≡ self.old.pending }
     {
-        let first = latest(assignment, clause, NOWHERE);
-        let second = latest(assignment, clause, first);
+        let two = latest_two(assignment, clause);
+        let first = two.first;
+        let second = two.second;
         self.froms[slot as usize] = 0;
         let a = clause[first as usize];
         let b = clause[second as usize];
         self.chains.link_two(2 * slot, a.0, b.0);
         Entered {
-            low: free_until(assignment, b.0) + 1,
+            low: two.second_until + 1,
             ask: a.0,
         }
     }

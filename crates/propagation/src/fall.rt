@@ -1,8 +1,8 @@
 //! Which two literals of a new clause to watch: those that are not false for longest along the trail.
-ghost use Rattle.std.specs.Prelude.{◌≡◌, ℕ, ◌*◌, ◌<◌, ◌≤◌, length, take, slice_index, nat_le};
+ghost use Rattle.std.specs.Prelude.{◌≡◌, ℕ, ◌+◌, ◌*◌, ◌<◌, ◌≤◌, List, length, take, slice_index, nat_le};
 ghost use Rattle.clause_base.specs.Clause.{has_literal};
 ghost use Rattle.propagation.specs.Pending.{is_free};
-ghost use Rattle.propagation.specs.Added.{Outlasts};
+ghost use Rattle.propagation.specs.Latest.{IsFreeUntil, AreLatest};
 
 use cdcl_trail::assignment::Assignment;
 use clause_base::literal::Lit;
@@ -21,41 +21,77 @@ pub fn free_until(assignment: &Assignment, code: u32) -> u32
     }
 }
 
-/// Of two places the one whose literal is not false for longer, but not the skipped one.
-fn longer(assignment: &Assignment, clause: &[Lit], skipped: u32, place: u32, best: u32) -> u32
-    requires below { (p : ℕ) → p < length clause.now → slice_index clause.now p < 2 * assignment.now.variables }
-    requires place { place < length clause.now }
-    requires best { best < length clause.now }
-    requires other { best ≡ skipped → ⊥ }
-    ensures inside { result < length clause.now }
-    ensures other { result ≡ skipped → ⊥ }
-    ensures keeps { Outlasts assignment.now.trail (slice_index clause.now result) (slice_index clause.now best) }
-    ensures takes { (place ≡ skipped → ⊥) → Outlasts assignment.now.trail (slice_index clause.now result) (slice_index clause.now place) }
+/// Two places of a clause, and for how long along the trail their literals are not false.
+#[derive(Clone, Copy)]
+pub struct Latest {
+    pub first: u32,
+    pub first_until: u32,
+    pub second: u32,
+    pub second_until: u32,
+}
+
+/// The first two places of a clause, by how long their literals are not false.
+#[inline(always)]
+fn of_two(one: u32, other: u32) -> Latest
+    ensures { (trail clause : List ℕ) (variables : ℕ) → IsFreeUntil trail (slice_index clause 0) variables one → IsFreeUntil trail (slice_index clause 1) variables other → AreLatest trail clause variables 2 result }
 {
-    if place == skipped {
-        return best;
-    }
-    let lit = clause[place as usize];
-    let chosen = clause[best as usize];
-    if free_until(assignment, chosen.0) < free_until(assignment, lit.0) {
-        place
+    if one < other {
+        Latest {
+            first: 1,
+            first_until: other,
+            second: 0,
+            second_until: one,
+        }
     } else {
-        best
+        Latest {
+            first: 0,
+            first_until: one,
+            second: 1,
+            second_until: other,
+        }
     }
 }
 
-/// The place, but for a skipped one, of the literal that is not false for longest.
-pub fn latest(assignment: &Assignment, clause: &[Lit], skipped: u32) -> u32
+/// Of two places and one more the two whose literals are not false for longest.
+#[inline(always)]
+fn with_place(two: Latest, place: u32, until: u32) -> Latest
+    ensures { (trail clause : List ℕ) (variables : ℕ) → AreLatest trail clause variables place two → IsFreeUntil trail (slice_index clause place) variables until → AreLatest trail clause variables (place + 1) result }
+{
+    if until > two.first_until {
+        return Latest {
+            first: place,
+            first_until: until,
+            second: two.first,
+            second_until: two.first_until,
+        };
+    }
+    if until > two.second_until {
+        return Latest {
+            first: two.first,
+            first_until: two.first_until,
+            second: place,
+            second_until: until,
+        };
+    }
+    two
+}
+
+/// The places of the two literals that are not false for longest.
+pub fn latest_two(assignment: &Assignment, clause: &[Lit]) -> Latest
     requires below { (p : ℕ) → p < length clause.now → slice_index clause.now p < 2 * assignment.now.variables }
     requires short { length clause.now ≤ 4294967295 }
     requires two { 2 ≤ length clause.now }
-    ensures inside { result < length clause.now }
-    ensures other { result ≡ skipped → ⊥ }
-    ensures most { (p : ℕ) → p < length clause.now → (p ≡ skipped → ⊥) → Outlasts assignment.now.trail (slice_index clause.now result) (slice_index clause.now p) }
+    ensures { AreLatest assignment.now.trail clause.now assignment.now.variables (length clause.now) result }
 {
-    let mut best = if skipped == 0 { 1 } else { 0 };
-    for place in 0..clause.len() as u32 {
-        best = longer(assignment, clause, skipped, place, best);
+    let a = clause[0];
+    let b = clause[1];
+    let one = free_until(assignment, a.0);
+    let other = free_until(assignment, b.0);
+    let mut two = of_two(one, other);
+    for place in 2..clause.len() as u32 {
+        let lit = clause[place as usize];
+        let until = free_until(assignment, lit.0);
+        two = with_place(two, place, until);
     }
-    best
+    two
 }

@@ -10,7 +10,7 @@ ghost use Rattle.propagation.specs.Visit.{Grows};
 ghost use Rattle.cdcl_rules.specs.State.{clause_at};
 
 use crate::pending::{NO_LITERAL, Pending};
-use crate::scan::{ask_of, is_pending};
+use crate::scan::ask_of;
 use crate::tables::Tables;
 use bit_sets::first::First;
 use bit_sets::flat::Flat;
@@ -87,8 +87,8 @@ fn scan_one(tables: &Tables, assignment: &Assignment, pending: &mut Pending, num
         return;
     }
     let clause = tables.store.clause(number);
-    if is_pending(assignment, &clause) {
-        pending.put(number, ask_of(assignment, &clause));
+    if let Some(ask) = ask_of(assignment, &clause) {
+        pending.put(number, ask);
     }
 }
 

@@ -23,6 +23,7 @@ mod quiet;
 mod room;
 mod scan;
 mod slots;
+mod status;
 mod tables;
 mod take_slot;
 mod undo;

@@ -1,8 +1,9 @@
 //! The clauses that are watched on a trail, and what the first of them asks for that is kept and pending, as literals become true and
 //! are taken back and clauses come and go.
-ghost use Rattle.std.specs.Prelude.{◌≡◌, ◌*◌, ◌/◌, ◌<◌, ◌++◌, ◌∷◌, [], None, take, length, replicate, true, false, slice_set, slice_index_or, IfOk, OnOk, OnErr};
+ghost use Rattle.std.specs.Prelude.{◌≡◌, ◌*◌, ◌/◌, ◌<◌, ◌++◌, ◌∷◌, [], None, take, length, replicate, true, false, slice_set, slice_index_or, IfOk, OnOk, OnErr, MatchOption};
 ghost use Rattle.clause_base.specs.Clause.{IsClause, has_literal, HasVariablesBelow};
-ghost use Rattle.cdcl_rules.specs.State.{value_of};
+ghost use Rattle.cdcl_rules.specs.State.{value_of, clause_at};
+ghost use Rattle.cdcl_rules.specs.Pending.{is_pending_in, open_ones};
 ghost use Rattle.cdcl_rules.specs.Learn.{backtracked};
 ghost use Rattle.cdcl_trail.specs.Assignment.{literals};
 ghost use Rattle.propagation.specs.Back.{taken_back};
@@ -15,6 +16,7 @@ use crate::marks::mark_pairs;
 use crate::pending::Pending;
 use crate::quiet::{no_quiet, raise};
 use crate::room::make_room;
+use crate::scan::status_of;
 use crate::tables::Tables;
 use crate::take_slot::take_slot;
 use crate::undo::{Back, refresh, take_back};
@@ -186,6 +188,16 @@ impl Propagator {
     {
         let assignment = self.trail.assignment();
         next(&self.tables, &assignment, &mut self.lists.pending)
+    }
+
+    /// What a clause that is kept and pending leaves: its only literal that is not false, if there is one. It takes no memory.
+    pub fn left(&self, number: u32) -> Option<Lit>
+        requires { is_pending_in self.now.clauses self.now.kept (has_literal (literals self.now.entries)) number ≡ true }
+        ensures { MatchOption result (open_ones (has_literal (literals self.now.entries)) (clause_at self.now.clauses number) ≡ []) (λ lit. open_ones (has_literal (literals self.now.entries)) (clause_at self.now.clauses number) ≡ lit ∷ []) }
+    {
+        let assignment = self.trail.assignment();
+        let clause = self.tables.store.clause(number);
+        status_of(&assignment, &clause).left()
     }
 
     /// Takes back what stands above a length or a level of the trail.

@@ -1,48 +1,45 @@
-//! What is found by reading the literals of a clause: whether it is pending, what it asks for, and another one to watch.
+//! What is found by reading the literals of a clause: how it stands, what it asks for, and another one to watch.
 ghost use Rattle.std.specs.Prelude.{◌≡◌, ℕ, ◌*◌, ◌<◌, ◌≤◌, Bool, length, true, false, slice_index, MatchOption, IfSome};
 ghost use Rattle.clause_base.specs.Clause.{has_literal};
 ghost use Rattle.propagation.specs.Asks.{IsAsk};
 ghost use Rattle.propagation.specs.Pending.{AreFalseBut, AreFalseFrom, is_free};
-ghost use Rattle.cdcl_rules.specs.Pending.{is_pending};
+ghost use Rattle.propagation.specs.Status.{IsStatus};
+ghost use Rattle.cdcl_rules.specs.Pending.{is_pending, open_ones};
 
 use crate::pending::NO_LITERAL;
+use crate::status::Status;
 use cdcl_trail::assignment::Assignment;
 use clause_base::literal::Lit;
 use clause_base::view::View;
 
-/// Whether a clause has no true literal and at most one that is not false. Each literal is read once.
-pub fn is_pending(assignment: &Assignment, clause: &View) -> bool
+/// How a clause stands, by its literals, each of which is read once.
+pub fn status_of(assignment: &Assignment, clause: &View) -> Status
     requires { (p : ℕ) → p < length clause.now → slice_index clause.now p < 2 * assignment.now.variables }
-    ensures { result ≡ is_pending (has_literal assignment.now.trail) clause.now }
+    ensures { IsStatus (is_pending (has_literal assignment.now.trail) clause.now) (open_ones (has_literal assignment.now.trail) clause.now) result }
 {
     let mut left: Option<Lit> = None;
     for place in 0..clause.len() {
         let lit = clause.get(place);
         if assignment.is_true(lit.0) {
-            return false;
+            return Status::Open;
         }
         if !assignment.is_false(lit.0) {
             if left.is_some() {
-                return false;
+                return Status::Open;
             }
             left = Some(lit);
         }
     }
-    true
+    match left {
+        Some(lit) => Status::Unit(lit),
+        None => Status::Falsified,
+    }
 }
 
-/// What a pending clause asks for: its literal that is not false, or its first one where all are false.
-pub fn ask_of(assignment: &Assignment, clause: &View) -> u32
-    requires below { (p : ℕ) → p < length clause.now → slice_index clause.now p < 2 * assignment.now.variables }
-    requires pending { is_pending (has_literal assignment.now.trail) clause.now ≡ true }
-    ensures { IsAsk (has_literal assignment.now.trail) clause.now result }
+/// What a clause asks for of which all literals after the first are false: for the first one, if it has any.
+fn first_ask(clause: &View) -> u32
+    ensures { (on : ℕ → Bool) → ((p : ℕ) → 0 < p → p < length clause.now → is_free on (slice_index clause.now p) ≡ false) → IsAsk on clause.now result }
 {
-    for place in 0..clause.len() {
-        let lit = clause.get(place);
-        if !assignment.is_false(lit.0) {
-            return lit.0;
-        }
-    }
     if clause.len() == 0 {
         return NO_LITERAL;
     }
@@ -55,11 +52,19 @@ pub fn only_ask(clause: &View) -> u32
     requires { length clause.now < 2 }
     ensures { (on : ℕ → Bool) → IsAsk on clause.now result }
 {
-    if clause.len() == 0 {
-        return NO_LITERAL;
+    first_ask(clause)
+}
+
+/// What a clause asks for, if it is pending: its literal that is not false, or its first one where all are false.
+pub fn ask_of(assignment: &Assignment, clause: &View) -> Option<u32>
+    requires { (p : ℕ) → p < length clause.now → slice_index clause.now p < 2 * assignment.now.variables }
+    ensures { MatchOption result (is_pending (has_literal assignment.now.trail) clause.now ≡ false) (λ ask. IsAsk (has_literal assignment.now.trail) clause.now ask) }
+{
+    match status_of(assignment, clause) {
+        Status::Open => None,
+        Status::Falsified => Some(first_ask(clause)),
+        Status::Unit(lit) => Some(lit.0),
     }
-    let only = clause.get(0);
-    only.0
 }
 
 /// A place from `low` up to `high` whose literal is not false and not the skipped one.

@@ -1,5 +1,2 @@
-pub mod Filters
-pub mod Statuses
 pub mod Views
-pub mod Belows
 pub mod Firsts

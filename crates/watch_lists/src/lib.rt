@@ -4,6 +4,4 @@
 //! asked first is looked for after each change, and literals are taken back to any length.
 #![tactic(auto)]
 
-mod scan;
-mod status;
 pub mod watches;

@@ -6,8 +6,6 @@ ghost use Rattle.cdcl_rules.specs.State.{clause_at};
 ghost use Rattle.cdcl_rules.specs.Pending.{is_pending_in, least_from, open_ones};
 ghost use Rattle.watch_lists.specs.First.{number_in};
 
-use crate::scan::status_of;
-use crate::status::Status;
 use cdcl_rules::event::Event;
 use cdcl_rules::trail::Assigned;
 use clause_base::clause::Clause;
@@ -27,18 +25,18 @@ pub struct Watches {
 }
 
 impl Model for Watches {
-    ghost use Rattle.std.specs.Prelude.{◌≡◌, length};
+    ghost use Rattle.std.specs.Prelude.{◌≡◌};
     ghost use Rattle.clause_base.specs.Clause.{has_literal};
     ghost use Rattle.cdcl_trail.specs.Assignment.{literals};
     ghost use Rattle.propagation.specs.Front.{first_asked};
-    ghost use Rattle.watch_lists.specs.Pending.{WatchesView, AreBelow, without_reasons};
+    ghost use Rattle.watch_lists.specs.Pending.{WatchesView, without_reasons};
 
     ghost Value = { WatchesView };
 
     ghost view = { λ w. without_reasons w.propagator };
 
-    // What is asked first is known, a literal of a clause has a truth, and each clause a flag.
-    ghost invariant = { λ w. (w.first ≡ first_asked w.propagator.clauses w.propagator.kept (has_literal (literals w.propagator.entries))) × AreBelow w.propagator.variables w.propagator.clauses × (length w.propagator.kept ≡ length w.propagator.clauses) };
+    // What is asked first is known.
+    ghost invariant = { λ w. w.first ≡ first_asked w.propagator.clauses w.propagator.kept (has_literal (literals w.propagator.entries)) };
 }
 
 /// Letting one go is one call, in which its parts go: whoever holds one proves one step.
@@ -65,10 +63,6 @@ impl Watches {
     pub fn new(alloc: Global, formula: &Formula) -> Result<Watches, Memory>
         ensures { IfOk result (λ w. w ≡ record { variables = formula.now.variables; clauses = formula.now.clauses; kept = replicate (length formula.now.clauses) true; trail = [] }) }
     {
-        // For the proof: how many clauses there are, and that their literals are of the variables.
-        let _many = formula.count();
-        // For the proof: the formula's literals are of its variables.
-        let _below = formula.variables();
         let mut propagator = Propagator::new(alloc, formula)?;
         let first = propagator.next();
         Ok(Watches { propagator, first })
@@ -135,8 +129,7 @@ impl Watches {
         requires { is_pending_in self.now.clauses self.now.kept (has_literal self.now.trail) number ≡ true }
         ensures { MatchOption result (open_ones (has_literal self.now.trail) (clause_at self.now.clauses number) ≡ []) (λ lit. open_ones (has_literal self.now.trail) (clause_at self.now.clauses number) ≡ lit ∷ []) }
     {
-        let assignment = self.propagator.trail().assignment();
-        status_of(&assignment, &self.propagator.store().clause(number)).left()
+        self.propagator.left(number)
     }
 
     /// The least number of a kept clause that has no true literal and at most one that is not false. It takes no memory.

@@ -14,11 +14,8 @@ use Rattle.propagation.proofs.front.scan_one.Goals.{After-clause-clause}
 read : (c : After-clause-clause) → c.clause-clause.result ≡ clause_at c.args.tables.now.store c.args.number
 read c = c.clause-clause.ensures ∙ sym (clause_is c.args.tables.now.store c.args.number)
 
-pub is_pending-requires : goal.is_pending-requires
-is_pending-requires c = fit_read c.args.tables.now.store (2 * c.args.assignment.now.variables) c.args.number c.clause-clause.result c.requires.tables.fit c.clause-clause.ensures
-
-pub ask_of-requires-clause-below : goal.ask_of-requires-clause-below
-ask_of-requires-clause-below c = fit_read c.args.tables.now.store (2 * c.args.assignment.now.variables) c.args.number c.clause-clause.result c.requires.tables.fit c.clause-clause.ensures
+pub ask_of-requires : goal.ask_of-requires
+ask_of-requires c = fit_read c.args.tables.now.store (2 * c.args.assignment.now.variables) c.args.number c.clause-clause.result c.requires.tables.fit c.clause-clause.ensures
 
 pub put-requires-clause-number : goal.put-requires-clause-number
 put-requires-clause-number c = omega (arith, c.requires.inside, c.requires.asks.room)
@@ -33,21 +30,21 @@ returns-then-not-is_kept-clause-own c p =
     clash (sym p ∙ pending_at t.store t.kept.items c.args.assignment.now.trail c.args.number ∙ ap
     (λ (b : Bool). b && is_pending (has_literal c.args.assignment.now.trail) (clause_at t.store c.args.number)) off)
 
-pub returns-then-is_pending-clause-own : goal.returns-then-is_pending-clause-own
-returns-then-is_pending-clause-own c p = own_insert (words_have c.args.pending.now.numbers) (words_have c.put.new.self.numbers) c.args.number c.put.ensures.has
+pub returns-in-Some-clause-own : goal.returns-in-Some-clause-own
+returns-in-Some-clause-own c p = own_insert (words_have c.args.pending.now.numbers) (words_have c.put.new.self.numbers) c.args.number c.put.ensures.has
 
-pub returns-then-is_pending-clause-grows : goal.returns-then-is_pending-clause-grows
-returns-then-is_pending-clause-grows c = grows_insert (words_have c.args.pending.now.numbers) (words_have c.put.new.self.numbers) c.args.number c.put.ensures.has
+pub returns-in-Some-clause-grows : goal.returns-in-Some-clause-grows
+returns-in-Some-clause-grows c = grows_insert (words_have c.args.pending.now.numbers) (words_have c.put.new.self.numbers) c.args.number c.put.ensures.has
 
-pub returns-then-is_pending-clause-asks : goal.returns-then-is_pending-clause-asks
-returns-then-is_pending-clause-asks c =
-    let here = (goal.at.returns-then-is_pending-clause-asks c).After-clause-clause in
-    asks_put c.args.tables.now.store c.args.assignment.now.trail c.args.number c.ask_of.result c.args.pending.now c.put.new.self c.requires.asks c.put.ensures c.requires.inside
-    (subst (λ (xs : List ℕ). IsAsk (has_literal c.args.assignment.now.trail) xs c.ask_of.result) (read here) c.ask_of.ensures)
+pub returns-in-Some-clause-asks : goal.returns-in-Some-clause-asks
+returns-in-Some-clause-asks c =
+    let here = (goal.at.returns-in-Some-clause-asks c).After-clause-clause in
+    asks_put c.args.tables.now.store c.args.assignment.now.trail c.args.number c.in-Some.ask c.args.pending.now c.put.new.self c.requires.asks c.put.ensures c.requires.inside
+    (subst (λ (xs : List ℕ). IsAsk (has_literal c.args.assignment.now.trail) xs c.in-Some.ask) (read here) c.in-Some.ensures)
 
-pub returns-else-is_pending-clause-own : goal.returns-else-is_pending-clause-own
-returns-else-is_pending-clause-own c p =
-    let here = (goal.at.returns-else-is_pending-clause-own c).After-clause-clause in
+pub returns-in_default-clause-own : goal.returns-in_default-clause-own
+returns-in_default-clause-own c p =
+    let here = (goal.at.returns-in_default-clause-own c).After-clause-clause in
     let t = c.args.tables.now in
     clash (sym (pending_kept t.store t.kept.items c.args.assignment.now.trail c.args.number p) ∙ ap
-    (is_pending (has_literal c.args.assignment.now.trail)) (sym (read here)) ∙ sym c.is_pending.ensures ∙ c.if-is_pending.false)
+    (is_pending (has_literal c.args.assignment.now.trail)) (sym (read here)) ∙ c.in_default.ensures)

@@ -2,9 +2,9 @@ use Rattle.std.proofs.Common.{arith, ◌≡◌, ◌+◌, ◌*◌, ◌<◌, ◌�
 use Rattle.std.proofs.lemmas.List.{get_or_read}
 use Rattle.clause_base.specs.Clause.{has_literal}
 use Rattle.propagation.specs.Pending.{is_free}
-use Rattle.propagation.proofs.Scans.{IsRead, read_second, read_true, read_false, read_first, read_end}
-use Rattle.propagation.proofs.scan.is_pending.Goals as goal
-use Rattle.propagation.proofs.scan.is_pending.Goals.{After-lit, then-not-is_false+else-is_some, else-not-is_false}
+use Rattle.propagation.proofs.Scans.{IsRead, list_of, read_second, read_true, read_false, read_first, read_end}
+use Rattle.propagation.proofs.scan.status_of.Goals as goal
+use Rattle.propagation.proofs.scan.status_of.Goals.{After-lit, then-not-is_false+else-is_some, else-not-is_false}
 
 -- the literal that is read is one of the clause's
 inside : (c : After-lit) → c.loop-place.place < length c.args.clause.now
@@ -25,14 +25,14 @@ is_false-requires c = below (goal.at.is_false-requires c).After-lit
 pub returns-then-is_true : goal.returns-then-is_true
 returns-then-is_true c =
     let read = (goal.at.returns-then-is_true c).After-lit in
-    sym (read_true (has_literal c.args.assignment.now.trail) c.args.clause.now c.loop-place.place c.lit.inside.0 (inside read) (item read) (sym c.is_true.ensures ∙ c.if-is_true.true))
+    read_true (has_literal c.args.assignment.now.trail) c.args.clause.now c.loop-place.place c.lit.inside.0 (inside read) (item read) (sym c.is_true.ensures ∙ c.if-is_true.true)
 
 pub returns-then-is_some : goal.returns-then-is_some
 returns-then-is_some c =
     let read = (goal.at.returns-then-is_some c).After-lit in
     let free : is_free (has_literal c.args.assignment.now.trail) c.lit.inside.0 ≡ true = ap (λ (b : Bool). not b) (sym c.is_false.ensures ∙ c.if-not-is_false.true) in
-    sym (read_second (has_literal c.args.assignment.now.trail) c.args.clause.now c.loop-place.place c.lit.inside.0 c.loop-place.left (inside read)
-    (item read) c.loop-place.invariant (sym c.is_some.ensures ∙ c.if-is_some.true) free)
+    read_second (has_literal c.args.assignment.now.trail) c.args.clause.now c.loop-place.place c.lit.inside.0 c.loop-place.left (inside read)
+    (item read) c.loop-place.invariant (sym c.is_some.ensures ∙ c.if-is_some.true) free
 
 pub loop-place-preserved : goal.loop-place-preserved
 loop-place-preserved c =
@@ -54,7 +54,14 @@ loop-place-preserved c =
           subst (λ (o : Option ℕ). IsRead on xs (i + 1) o) (sym same) (read_false on xs i c.lit.inside.0 c.loop-place.left (inside read) (item read) c.loop-place.invariant off free)
     ]
 
-pub returns : goal.returns
-returns c =
-    sym (read_end (has_literal c.args.assignment.now.trail) c.args.clause.now c.loop-place.place c.loop-place.left c.loop-place.invariant
-    (omega (arith, c.loop-place-test.false, c.len-place-end.ensures))).0
+pub returns-in-Some : goal.returns-in-Some
+returns-in-Some c =
+    let all = read_end (has_literal c.args.assignment.now.trail) c.args.clause.now c.loop-place.place c.loop-place.left c.loop-place.invariant
+    (omega (arith, c.loop-place-test.false, c.len-place-end.ensures)) in
+    (all.0, all.1 ∙ ap list_of c.in-Some.is)
+
+pub returns-in-None : goal.returns-in-None
+returns-in-None c =
+    let all = read_end (has_literal c.args.assignment.now.trail) c.args.clause.now c.loop-place.place c.loop-place.left c.loop-place.invariant
+    (omega (arith, c.loop-place-test.false, c.len-place-end.ensures)) in
+    (all.0, all.1 ∙ ap list_of c.in-None.is)

@@ -1,7 +1,7 @@
 -- How a clause stands.
 use Rattle.std.specs.Prelude.{◌≡◌, ℕ, List, [], ◌∷◌, Bool, true, false}
-use Rattle.watch_lists.specs.declared.status.Status.{Status}
-use Rattle.watch_lists.specs.declared.status.Status.TheVariants.{Open, Falsified, Unit}
+use Rattle.propagation.specs.declared.status.Status.{Status}
+use Rattle.propagation.specs.declared.status.Status.TheVariants.{Open, Falsified, Unit}
 
 -- whether a clause is pending, and what then are its literals that are not false
 abbrev pub IsStatus : Bool → List ℕ → Status → Type 0

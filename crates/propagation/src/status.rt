@@ -1,6 +1,6 @@
 //! How a clause stands on a trail.
 ghost use Rattle.std.specs.Prelude.{◌≡◌, ℕ, ◌∷◌, [], List, Bool, true, MatchOption};
-ghost use Rattle.watch_lists.specs.Status.{IsStatus};
+ghost use Rattle.propagation.specs.Status.{IsStatus};
 
 use clause_base::literal::Lit;
 
@@ -16,14 +16,6 @@ pub enum Status {
 }
 
 impl Status {
-    /// Whether the clause is pending.
-    #[inline]
-    pub fn is_pending(&self) -> bool
-        ensures { (pending : Bool) (free : List ℕ) → IsStatus pending free self.now → result ≡ pending }
-    {
-        !matches!(self, Status::Open)
-    }
-
     /// The literal that is not false of a clause that is pending, if there is one.
     #[inline]
     pub fn left(&self) -> Option<Lit>

@@ -1,7 +1,0 @@
-use Rattle.std.proofs.Common.{◌≡◌, ℕ, ◌<◌, get_or, false}
-use Rattle.clause_base.specs.Clause.{has_literal}
-use Rattle.propagation.specs.Pending.{is_free}
-use Rattle.propagation.proofs.scan.ask_of.Given as goal
-
-abbrev pub invariant-loop-place : goal.invariant-loop-place
-invariant-loop-place l = (p : ℕ) → p < l.place → is_free (has_literal l.assignment.trail) (get_or l.clause p 0) ≡ false
