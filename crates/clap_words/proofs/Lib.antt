@@ -1,4 +1,5 @@
 pub mod Chain
+pub mod Commands
 pub mod ListReaders
 pub mod Ranges
 mod Arguments

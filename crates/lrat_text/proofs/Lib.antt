@@ -1,4 +1,6 @@
 pub mod WordsLaws
+pub mod Digits
 pub mod LineLaws
 pub mod Texts
+pub mod Pieces
 pub mod Fronts

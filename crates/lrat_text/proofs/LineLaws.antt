@@ -1,5 +1,5 @@
 -- Numbers read up to a 0, one after another.
-use Rattle.std.proofs.Common.{◌≡◌, ◌==◌, ◌+◌, ◌||◌, Result, Ok, not, ℕ, List, [], ◌∷◌, ◌++◌, length, map, filter, drop, Bool, true, false, Option, Some, None, option_map, refl, sym, ap, ◌∙◌, subst, append_assoc, append-nil}
+use Rattle.std.proofs.Common.{◌≡◌, ◌==◌, ◌+◌, ◌||◌, Result, Ok, not, ℕ, List, [], ◌∷◌, ◌++◌, length, map, filter, drop, Bool, true, false, Option, Some, None, option_map, if◌then◌else◌, refl, sym, ap, ◌∙◌, subst, append_assoc, append-nil}
 use Rattle.std.specs.Prelude.{option_and_then, codes}
 use Rattle.std.specs.List.{list_any}
 use Rattle.std.proofs.lemmas.List.{map-append}
@@ -8,6 +8,7 @@ use Rattle.containers.specs.declared.memory.Memory.{Memory}
 use Rattle.lrat_text.specs.declared.words.Signed.{Signed}
 use Rattle.lrat_text.specs.declared.line.Line.{Line}
 use Rattle.lrat_text.specs.Words.{number_of, first_number, words_of, begins_with}
+use Rattle.lrat_text.proofs.WordsLaws.{not_zero}
 use Rattle.lrat_text.specs.Line.{LineView, line_of, up_to_zero, all_to_zero, addition, deletion, codes_of, code_of, has_code, plain_ids, IsHeld}
 use Rattle.lrat_text.specs.Reading.{SameHead, ReadsLiterals, ReadsIds}
 
@@ -48,8 +49,10 @@ onto : (passed : List Signed) (told : Signed) (read : Option Read) → option_ma
 onto passed told None = refl
 onto passed told (Some more) = ap (λ (numbers : List Signed). Some (numbers, more.1)) (sym (append_assoc passed (told ∷ []) more.0))
 
-pub passes_more : (all left : List (List ℕ)) (passed : List Signed) (told : Signed) → Passes all left passed → Some told ≡ first_number left → (told.number == 0) ≡ false → Passes all (drop 1 left) (passed ++ told ∷ [])
-passes_more all left passed told p is apart = p ∙ ap (option_map (ahead passed)) (up_more left told (sym is) apart) ∙ onto passed told (up_to_zero (drop 1 left))
+pub passes_more : (all left next : List (List ℕ)) (passed : List Signed) (told : Signed) → Passes all left passed → Some told ≡ first_number left → (told.number ≡ 0 → ⊥) → next ≡ drop 1 left → Passes all next (passed ++ told ∷ [])
+passes_more all left next passed told p is apart goes_on =
+    let more : Passes all (drop 1 left) (passed ++ told ∷ []) = p ∙ ap (option_map (ahead passed)) (up_more left told (sym is) (not_zero told.number apart)) ∙ onto passed told (up_to_zero (drop 1 left)) in
+    subst (λ (words : List (List ℕ)). Passes all words (passed ++ told ∷ [])) (sym goes_on) more
 
 pub passes_zero : (all left : List (List ℕ)) (passed : List Signed) (told : Signed) → Passes all left passed → Some told ≡ first_number left → (told.number == 0) ≡ true → up_to_zero all ≡ Some (passed, drop 1 left)
 passes_zero all left passed told p is zero = p ∙ ap (option_map (ahead passed)) (up_zero left told (sym is) zero) ∙ ap (λ (numbers : List Signed). Some (numbers, drop 1 left)) (append-nil passed)
@@ -175,6 +178,24 @@ line_deletes bytes id is plain deletes = rw (is, plain, deletes) refl
 pub line_adds : (bytes : List ℕ) (id : Signed) → first_number (words_of bytes) ≡ Some id → id.minus ≡ false → begins_with (codes "d") (drop 1 (words_of bytes)) ≡ false → line_of bytes ≡ addition id.number (drop 1 (words_of bytes))
 unfolding line_of
 line_adds bytes id is plain adds = rw (is, plain, adds) refl
+
+-- where so much of them was read: the words, the id, and whether they delete clauses
+module _ (bytes : List ℕ) (all after rest : List (List ℕ)) (told : Option Signed) (id : Signed) (is : all ≡ words_of bytes) (read : told ≡ first_number all) (some : told ≡ Some id) (passed : after ≡ drop 1 all) where
+  spelled : first_number (words_of bytes) ≡ Some id
+  spelled = ap first_number (sym is) ∙ (sym read ∙ some)
+
+  left : after ≡ drop 1 (words_of bytes)
+  left = passed ∙ ap (drop 1) is
+
+  pub read_deletes : (deletes : Bool) (held : ℕ) → id.minus ≡ false → deletes ≡ begins_with (codes "d") after → rest ≡ (if deletes then drop 1 after else after) → deletes ≡ true → held ≡ id.number → line_of bytes ≡ deletion held rest
+  read_deletes deletes held plain begins goes_on on same =
+      line_deletes bytes id spelled plain (ap (begins_with (codes "d")) (sym left) ∙ (sym begins ∙ on))
+      ∙ (ap (deletion id.number) (sym (goes_on ∙ (ap (λ (b : Bool). if b then drop 1 after else after) on ∙ ap (drop 1) left))) ∙ ap (λ (n : ℕ). deletion n rest) (sym same))
+
+  pub read_adds : (deletes : Bool) (held : ℕ) → id.minus ≡ false → deletes ≡ begins_with (codes "d") after → rest ≡ (if deletes then drop 1 after else after) → deletes ≡ false → held ≡ id.number → line_of bytes ≡ addition held rest
+  read_adds deletes held plain begins goes_on off same =
+      line_adds bytes id spelled plain (ap (begins_with (codes "d")) (sym left) ∙ (sym begins ∙ off))
+      ∙ (ap (addition id.number) (sym (goes_on ∙ (ap (λ (b : Bool). if b then drop 1 after else after) off ∙ left))) ∙ ap (λ (n : ℕ). addition n rest) (sym same))
 
 -- where none is held to have a minus, none has
 pub plain_ids_of : (old new : Line) (ids : List Signed) → IsHeld (record { id = old.id; deletes = true; literals = []; hints = [] }) old → ReadsIds old new ids

@@ -1,9 +1,11 @@
 -- The lines of a text that goes on.
-use Rattle.std.proofs.Common.{arith, ◌≡◌, ◌==◌, ◌+◌, ◌-◌, ◌<◌, ◌≤◌, inl, inr, suc, take, drop, get_or, length-drop, append_assoc, ℕ, List, [], ◌∷◌, ◌++◌, length, Bool, true, false, refl, sym, ap, ◌∙◌}
+use Rattle.std.proofs.Common.{arith, ◌≡◌, ◌==◌, ◌+◌, ◌-◌, ◌<◌, ◌≤◌, inl, inr, zero, suc, take, drop, get_or, length-drop, append_assoc, ℕ, List, [], ◌∷◌, ◌++◌, length, Bool, true, false, refl, sym, ap, subst, ◌∙◌}
 use Rattle.std.proofs.lemmas.List.{take_all, take-append-drop}
 use Rattle.std.proofs.Math.Seq.{drop-cons}
+use Rattle.std.proofs.lemmas.Bool.{eq-eqb}
 use Rattle.std.proofs.lemmas.Bool.Decides.{eqb_tells}
 use Rattle.std.proofs.lemmas.Grind.{take_at_read}
+use Rattle.memchr.specs.Find.{Nowhere, Passes, is_byte}
 use Rattle.lrat_text.specs.Lines.{put_first, whole_lines, last_part, has_no_end}
 
 -- the first byte of a text without an end of a line is none
@@ -119,3 +121,12 @@ cut_at text i less is =
 -- a text that was met whole
 pub no_end_all : (text : List ℕ) (i : ℕ) → length text ≤ i → has_no_end (take i text) ≡ true → has_no_end text ≡ true
 no_end_all text i all e = rw (take_all i text all) at e
+
+-- up to the first byte that ends a line no line ends
+pub no_end_before : (text : List ℕ) (i : ℕ) → i ≤ length text → Nowhere (Passes (is_byte 10) text) 0 i → has_no_end (take i text) ≡ true
+no_end_before text zero fits none = refl
+no_end_before text (suc i) fits none =
+    let one : i + 1 ≡ suc i = omega arith in
+    let before = no_end_before text i (omega (arith, fits)) (λ k low less. none k low (omega (arith, less))) in
+    subst (λ (n : ℕ). has_no_end (take n text) ≡ true) one
+    (no_end_more text i (omega (arith, fits)) before (λ is. none i (omega arith) (omega arith) (eq-eqb (get_or text i 0) 10 is)))

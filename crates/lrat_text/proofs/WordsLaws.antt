@@ -1,12 +1,12 @@
 -- The words of a line, from its front.
-use Rattle.std.proofs.Common.{◌≡◌, ◌==◌, ◌&&◌, ◌||◌, ◌<◌, ◌≤◌, ◌+◌, ◌*◌, ◌-◌, not, ℕ, List, [], ◌∷◌, ◌++◌, length, get_or, fold, filter, drop, Bool, true, false, Option, Some, None, option_map, refl, sym, ap, ◌∙◌, subst, arith, inl, inr}
+use Rattle.std.proofs.Common.{◌≡◌, ◌==◌, ◌&&◌, ◌||◌, ◌<◌, ◌≤◌, ◌+◌, ◌*◌, ◌-◌, not, ℕ, List, [], ◌∷◌, ◌++◌, length, get_or, filter, drop, Bool, true, false, Option, Some, None, option_map, refl, sym, ap, ◌∙◌, subst, arith, inl, inr}
 use Rattle.std.specs.Prelude.{nat_lt, option_and_then, codes}
 use Rattle.std.specs.Char.{is_ascii_digit}
 use Rattle.std.specs.List.{slice_split, onto_first, list_all}
 use Rattle.std.proofs.lemmas.Bool.{eqb-true, eq-eqb, lt-ltb, le-ltb}
 use Rattle.std.proofs.lemmas.Bool.Decides.{eqb_tells, nat_tests}
 use Rattle.lrat_text.specs.declared.words.Signed.{Signed}
-use Rattle.lrat_text.specs.Words.{is_blank, is_some, words_of, value_of, is_natural, natural_of, negative, number_of, first_number, begins_with}
+use Rattle.lrat_text.specs.Words.{is_blank, is_some, words_of, value_of, value_with, is_natural, natural_of, negative, number_of, first_number, begins_with}
 use Rattle.lrat_text.specs.Cut.{after_blanks, digits_front, after_digits, word_front, after_word, ends_word}
 
 -- the parts after the first one
@@ -91,7 +91,7 @@ front_all_digits (b ∷ bytes) = by (front_all_digits bytes) (is_ascii_digit b) 
     by rest false d = rw d refl
 
 -- a number grows with each digit
-pub grows : (n : ℕ) (digits : List ℕ) → n ≤ fold (λ n b. n * 10 + (b - 48)) n digits
+pub grows : (n : ℕ) (digits : List ℕ) → n ≤ value_with n digits
 grows n [] = omega arith
 grows n (b ∷ digits) = let more = grows (n * 10 + (b - 48)) digits in omega (arith, more)
 
@@ -268,7 +268,3 @@ first_digit (b ∷ bytes) some = by (is_ascii_digit b) refl
     by : (t : Bool) → is_ascii_digit b ≡ t → get_or (digits_front (b ∷ bytes)) 0 0 ≡ get_or (b ∷ bytes) 0 0
     by true d = rw d refl
     by false d = absurd (let none : digits_front (b ∷ bytes) ≡ [] = rw d refl in let long = ap (λ (ds : List ℕ). length ds) none in let never : ⊥ = omega (arith, long, some) in never)
-
--- a number that is too large stays so
-pub still_large : (n b : ℕ) (digits whole : List ℕ) → 18446744073709551616 ≤ n * 10 + (b - 48) → fold (λ n b. n * 10 + (b - 48)) n (b ∷ digits) ≡ value_of whole → natural_of whole ≡ None
-still_large n b digits whole large is = let more = grows (n * 10 + (b - 48)) digits in natural_large whole (omega (arith, more, large, is))

@@ -18,9 +18,13 @@ is_some (b ∷ bytes) = true
 unfoldable pub words_of : List ℕ → List (List ℕ)
 words_of bytes = filter is_some (slice_split is_blank bytes)
 
+-- the number that decimal digits write after those of a number
+abbrev pub value_with : ℕ → List ℕ → ℕ
+value_with n digits = fold (λ n b. n * 10 + (b - 48)) n digits
+
 -- the number that decimal digits write
 unfoldable pub value_of : List ℕ → ℕ
-value_of digits = fold (λ n b. n * 10 + (b - 48)) 0 digits
+value_of digits = value_with 0 digits
 
 -- a word is decimal digits without a leading zero, of a number below 2 ^ 64
 unfoldable pub is_natural : List ℕ → Bool

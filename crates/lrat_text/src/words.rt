@@ -1,10 +1,13 @@
 //! The words of a line, which blanks part.
 ghost use Rattle.std.specs.Prelude.{◌≡◌, ◌<◌, ◌==◌, ◌+◌, ◌*◌, ◌-◌, ◌≤◌, ◌∷◌, List, [], ℕ, Bool, IfSome, IfNone, IsSomeAnd, Some, None, true, false, codes, slice_index, take, drop, length, nat_lt, if◌then◌else◌};
 ghost use Rattle.std.specs.Char.{is_ascii_digit};
-ghost use Rattle.lrat_text.specs.Words.{is_blank, words_of, natural_of, first_number, begins_with};
+ghost use Rattle.lrat_text.specs.Words.{is_blank, words_of, value_of, value_with, natural_of, first_number, begins_with};
 ghost use Rattle.lrat_text.specs.Cut.{after_blanks, digits_front, after_digits, word_front, after_word, ends_word};
 
 use std::marker::Model;
+
+/// So many digits write a number below 2^64, whatever they are.
+const FEW: usize = 19;
 
 /// A number in a line: decimal digits without a leading zero, after a minus or not.
 #[derive(Clone, Copy)]
@@ -37,6 +40,7 @@ fn is_blank(byte: u8) -> bool
 }
 
 // What follows the blanks at the front of a text.
+#[inline(always)]
 fn after_blanks(bytes: &[u8]) -> &[u8]
     ensures { result.now ≡ after_blanks bytes.now }
 {
@@ -96,29 +100,69 @@ fn has_leading_zero(digits: &[u8], count: usize) -> bool
     1 < count && digits[0] == b'0'
 }
 
-// The number that the digits at the front of a text write, and what follows them; none where there is no digit, a zero before a
-// digit, or a number that is too large.
-fn digits_of(bytes: &[u8]) -> Option<(u64, &[u8])>
-    ensures some { IfSome result (λ read. (natural_of (digits_front bytes.now) ≡ Some read.0) × (read.1.now ≡ after_digits bytes.now)) }
-    ensures none { IfNone result (natural_of (digits_front bytes.now) ≡ None) }
+// The number that the digits at the front of a text write, up to 19 of them, and how many these are. None is too large for
+// 64 bits, so that none is tested.
+#[inline(always)]
+fn few_digits(bytes: &[u8]) -> (u64, usize)
+    ensures count { result.1 ≤ length bytes.now }
+    ensures value { value_with result.0 (digits_front (drop result.1 bytes.now)) ≡ value_of (digits_front bytes.now) }
+    ensures small { result.0 < 18446744073709551616 }
+    ensures after { after_digits (drop result.1 bytes.now) ≡ after_digits bytes.now }
+    ensures long { result.1 + length (digits_front (drop result.1 bytes.now)) ≡ length (digits_front bytes.now) }
+    ensures ended { result.1 < 19 → digits_front (drop result.1 bytes.now) ≡ [] }
 {
-    let mut rest = bytes;
+    let most = bytes.len().min(FEW);
     let mut number = 0;
+    for place in 0..most {
+        let byte = bytes[place];
+        if !byte.is_ascii_digit() {
+            return (number, place);
+        }
+        number = number * 10 + u64::from(byte - b'0');
+    }
+    (number, most)
+}
+
+// The number that these digits and those at the front of a text write, and what follows them; none from 2^64 on.
+#[inline(never)]
+fn more_digits(first: u64, text: &[u8]) -> Option<(u64, &[u8])>
+    ensures some { IfSome result (λ read. (read.0 ≡ value_with first (digits_front text.now)) × (read.1.now ≡ after_digits text.now)) }
+    ensures small { IfSome result (λ read. read.0 < 18446744073709551616) }
+    ensures none { IfNone result (18446744073709551616 ≤ value_with first (digits_front text.now)) }
+{
+    let mut rest = text;
+    let mut number = first;
     while let Some((digit, more)) = next_digit(rest) {
         number = with_digit(number, digit)?;
         rest = more;
     }
-    let count = bytes.len() - rest.len();
+    Some((number, rest))
+}
+
+// The number that the digits at the front of a text write, and what follows them; none where there is no digit, a zero before a
+// digit, or a number that is too large.
+#[inline(always)]
+fn digits_of(bytes: &[u8]) -> Option<(u64, &[u8])>
+    ensures some { IfSome result (λ read. (natural_of (digits_front bytes.now) ≡ Some read.0) × (read.1.now ≡ after_digits bytes.now)) }
+    ensures none { IfNone result (natural_of (digits_front bytes.now) ≡ None) }
+{
+    let (number, count) = few_digits(bytes);
     if count == 0 {
         return None;
     }
     if has_leading_zero(bytes, count) {
         return None;
     }
-    Some((number, rest))
+    let (_, rest) = bytes.split_at(count);
+    if count < FEW {
+        return Some((number, rest));
+    }
+    let (whole, after) = more_digits(number, rest)?;
+    Some((whole, after))
 }
 
 // The number that is the word at the front of a text, without a sign, and what follows it.
+#[inline(always)]
 fn natural_of(text: &[u8]) -> Option<(u64, &[u8])>
     ensures some { IfSome result (λ read. (natural_of (word_front text.now) ≡ Some read.0) × (read.1.now ≡ after_word text.now)) }
     ensures none { IfNone result (natural_of (word_front text.now) ≡ None) }
@@ -164,6 +208,7 @@ impl<'a> Words<'a> {
     }
 
     /// The number that is the next word, which is then passed. Where there is none, the words left are not told.
+    #[inline(always)]
     pub fn number(&mut self) -> Option<Signed>
         ensures number { result ≡ first_number self.old }
         ensures passed { IfSome result (λ _. self.new ≡ drop 1 self.old) }
