@@ -1,4 +1,4 @@
-use Rattle.std.proofs.Common.{◌≡◌, ◌∙◌, ◌⊎◌, inl, inr, ap, sym, true, ℕ, List, []}
+use Rattle.std.proofs.Common.{◌∙◌, inl, inr, ap, sym, ℕ, List, []}
 use Rattle.std.proofs.lemmas.List.{get_or_read}
 use Rattle.std.proofs.lemmas.Bool.{OnTrue_at}
 use Rattle.bit_sets.specs.Rows.{row_has}
