@@ -260,10 +260,10 @@ module _ (facts size : ℕ) (rows : List (List ℕ)) (groups : List Group) (here
   pub firm_sure : (m : ℕ) → IsFirm takers here m → is_sure_by facts rows (group_with groups) here m ≡ true
   firm_sure m firm = and_both _ _ (or_left (here m) _ firm.0) (ap not (not_true _ (never_lost m firm.1 firm.2)))
 
--- what is sure is not broken
-pub kept_sure : (old clause lits may sure : Bool) → (lits ≡ true → clause ≡ true → sure ≡ true) → old ≡ (old || (clause && (lits && (may && not sure))))
+-- what is sure is not broken, and what is there already is not added
+pub kept_sure : (old clause lits may sure : Bool) → (old ≡ false → lits ≡ true → clause ≡ true → sure ≡ true) → old ≡ (old || (clause && (lits && (may && not sure))))
 kept_sure true clause lits may sure h = refl
 kept_sure false false lits may sure h = refl
 kept_sure false true false may sure h = refl
 kept_sure false true true false sure h = refl
-kept_sure false true true true sure h = ap not (sym (h refl refl))
+kept_sure false true true true sure h = ap not (sym (h refl refl refl))

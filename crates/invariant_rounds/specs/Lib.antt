@@ -6,3 +6,4 @@ pub mod Index
 pub mod Before
 pub mod First
 pub mod Rounds
+pub mod Harmless

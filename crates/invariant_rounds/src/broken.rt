@@ -91,7 +91,8 @@ fn add_group_losses<'a>(
     if known.has_pair() {
         return Ok(());
     }
-    let harmless = is_harmless(clauses, takers, group, &known, &mut room.there)?;
+    let so_far = lost.as_slice();
+    let harmless = is_harmless(clauses, so_far, takers, group, &known, room)?;
     if harmless {
         return Ok(());
     }
@@ -117,6 +118,7 @@ fn add_all_groups(
     before: &Before,
     clauses: &[BitRow],
     lost: &mut Vec<BitRow>,
+    room: &mut Room,
 ) -> Result<(), AllocError>
     requires before { IsBefore before.now }
     requires clauses { AreRows before.now.facts clauses.now }
@@ -127,19 +129,15 @@ fn add_all_groups(
     let groups = before.groups;
     let givers = givers_of(alloc, before.set, groups)?;
     let takers = takers_of(alloc, before)?;
-    let mut room = Room {
-        there: BitRow::new(alloc),
-        given: BitRow::new(alloc),
-    };
     for group in groups {
         add_group_losses(
-            alloc, &*before, clauses, &givers, &takers, group, lost, &mut room,
+            alloc, &*before, clauses, &givers, &takers, group, lost, room,
         )?;
     }
     Ok(())
 }
 
-/// Adds the clauses that an action breaks, by its effects, to those that are lost. `room` is room for a row.
+/// Adds the clauses that an action breaks, by its effects, to those that are lost. `room` is room for rows.
 pub fn add_losses_of(
     alloc: Global,
     facts: u32,
@@ -147,7 +145,7 @@ pub fn add_losses_of(
     clauses: &[BitRow],
     act: &Act,
     lost: &mut Vec<BitRow>,
-    room: &mut BitRow,
+    room: &mut Room,
 ) -> Result<(), AllocError>
     requires rows { AreRowsOf (2 * facts) known.now.rows.items }
     requires none { IsSetOf (2 * facts) (row_has known.now.none) }
@@ -163,7 +161,8 @@ pub fn add_losses_of(
         return Ok(());
     }
     let effects = act.effects();
-    let harmless = are_harmless(facts, clauses, effects, &set, room)?;
+    let so_far = lost.as_slice();
+    let harmless = are_harmless(facts, clauses, so_far, effects, &set, room)?;
     if harmless {
         return Ok(());
     }
@@ -178,6 +177,6 @@ pub fn add_losses_of(
         set: &set,
         groups: groups.as_slice(),
     };
-    add_all_groups(alloc, &before, clauses, lost)?;
+    add_all_groups(alloc, &before, clauses, lost, room)?;
     Ok(())
 }

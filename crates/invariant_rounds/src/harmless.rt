@@ -1,17 +1,17 @@
-//! What breaks nothing for a reason that is seen at once: each literal that stands in a clause with one that may be taken
-//! is known before, and is not taken itself.
+//! What breaks nothing more for a reason that is seen at once: each literal that stands in a clause with one that may be
+//! taken is known before and is not taken itself, or this clause is lost already.
 
-ghost use Rattle.std.specs.Prelude.{◌≡◌, ℕ, ◌*◌, ◌<◌, ◌≤◌, ◌&&◌, not, true, length, IfOk};
+ghost use Rattle.std.specs.Prelude.{◌≡◌, ℕ, ◌*◌, ◌<◌, ◌≤◌, ◌&&◌, not, true, false, length, IfOk};
 ghost use Rattle.std.specs.List.{AllByRecursion};
-ghost use Rattle.std.specs.Bool.{OnTrue};
 ghost use Rattle.bit_sets.specs.Rows.{row_has};
 ghost use Rattle.implied_literals.specs.Rows.{clause_in, AreRows};
 ghost use Rattle.implied_literals.specs.Tested.{IsSetOf, EffectFits};
 ghost use Rattle.invariant_rounds.specs.Plain.{has_opposite};
 ghost use Rattle.invariant_rounds.specs.Index.{IsFirm};
+ghost use Rattle.invariant_rounds.specs.Harmless.{IsKept};
 
 use crate::groups::Group;
-use crate::takers::Takers;
+use crate::takers::{Room, Takers};
 use bit_sets::row::BitRow;
 use gt_core::eff::Eff;
 use gt_core::lits::opposite;
@@ -26,69 +26,122 @@ fn remove_opposites(effects: &[Eff], set: &mut BitRow)
     }
 }
 
-/// Whether the clauses of the opposites of the literals of effects are all with literals of a set.
-fn are_opposites_among(facts: u32, clauses: &[BitRow], effects: &[Eff], set: &BitRow) -> bool
-    requires clauses { AreRows facts clauses.now }
-    requires effects { AllByRecursion (EffectFits (2 * facts)) effects.now }
-    ensures { OnTrue result ((l m : ℕ) → has_opposite effects.now l ≡ true → clause_in clauses.now l m ≡ true → row_has set.now m ≡ true) }
+/// Whether the clauses of a literal are all with literals of a set, but for those that are lost. `either` is room for a row.
+fn is_row_among(
+    clauses: &[BitRow],
+    lost: &[BitRow],
+    l: u32,
+    set: &BitRow,
+    either: &mut BitRow,
+) -> Result<bool, AllocError>
+    requires clauses { l < length clauses.now }
+    requires lost { l < length lost.now }
+    ensures { IfOk result (λ among. among ≡ true → (m : ℕ) → IsKept clauses.now lost.now (row_has set.now) l m) }
 {
-    for effect in effects {
-        if !clauses[opposite(effect.lit()) as usize].is_part_of(set) {
-            return false;
-        }
+    let row = &clauses[l as usize];
+    let within = row.is_part_of(set);
+    if within {
+        return Ok(true);
     }
-    true
+    either.make_same(set)?;
+    either.unite(&lost[l as usize])?;
+    let covered = row.is_part_of(either);
+    Ok(covered)
 }
 
-/// Whether effects break nothing where a set is known before them: each literal of a clause that they may break is in it,
-/// and none of them takes it.
+/// Whether the clauses of the opposites of the literals of effects are all with literals of a set, but for those that are
+/// lost.
+fn are_opposites_among(
+    facts: u32,
+    clauses: &[BitRow],
+    lost: &[BitRow],
+    effects: &[Eff],
+    set: &BitRow,
+    either: &mut BitRow,
+) -> Result<bool, AllocError>
+    requires clauses { AreRows facts clauses.now }
+    requires lost { length lost.now ≡ 2 * facts }
+    requires effects { AllByRecursion (EffectFits (2 * facts)) effects.now }
+    ensures { IfOk result (λ among. among ≡ true → (l m : ℕ) → has_opposite effects.now l ≡ true → IsKept clauses.now lost.now (row_has set.now) l m) }
+{
+    for effect in effects {
+        let among = is_row_among(clauses, lost, opposite(effect.lit()), set, either)?;
+        if !among {
+            return Ok(false);
+        }
+    }
+    Ok(true)
+}
+
+/// Whether effects break nothing more where a set is known before them: each literal of a clause that they may break is in
+/// it, and none of them takes it, or the clause is lost.
 pub fn are_harmless(
     facts: u32,
     clauses: &[BitRow],
+    lost: &[BitRow],
     effects: &[Eff],
     set: &BitRow,
-    room: &mut BitRow,
+    room: &mut Room,
 ) -> Result<bool, AllocError>
     requires clauses { AreRows facts clauses.now }
+    requires lost { length lost.now ≡ 2 * facts }
     requires effects { AllByRecursion (EffectFits (2 * facts)) effects.now }
-    ensures { IfOk result (λ harmless. harmless ≡ true → (l m : ℕ) → has_opposite effects.now l ≡ true → clause_in clauses.now l m ≡ true → (row_has set.now m && not (has_opposite effects.now m)) ≡ true) }
+    ensures { IfOk result (λ harmless. harmless ≡ true → (l m : ℕ) → has_opposite effects.now l ≡ true → IsKept clauses.now lost.now (λ k. row_has set.now k && not (has_opposite effects.now k)) l m) }
 {
-    room.make_same(set)?;
-    remove_opposites(effects, room);
-    Ok(are_opposites_among(facts, clauses, effects, room))
+    room.there.make_same(set)?;
+    remove_opposites(effects, &mut room.there);
+    let among = are_opposites_among(facts, clauses, lost, effects, &room.there, &mut room.given)?;
+    Ok(among)
 }
 
-/// Whether the clauses of some literals are all with literals of a set.
-fn are_among(clauses: &[BitRow], lits: &BitRow, set: &BitRow) -> bool
+/// Whether the clauses of some literals are all with literals of a set, but for those that are lost.
+fn are_among(
+    clauses: &[BitRow],
+    lost: &[BitRow],
+    lits: &BitRow,
+    set: &BitRow,
+    either: &mut BitRow,
+) -> Result<bool, AllocError>
     requires few { length clauses.now ≤ 4096 }
+    requires lost { length lost.now ≡ length clauses.now }
     requires lits { IsSetOf (length clauses.now) (row_has lits.now) }
-    ensures { OnTrue result ((l m : ℕ) → row_has lits.now l ≡ true → clause_in clauses.now l m ≡ true → row_has set.now m ≡ true) }
+    ensures { IfOk result (λ among. among ≡ true → (l m : ℕ) → row_has lits.now l ≡ true → IsKept clauses.now lost.now (row_has set.now) l m) }
 {
     let mut from = 0;
     while let Some(l) = lits.least(from) {
-        if !clauses[l as usize].is_part_of(set) {
-            return false;
+        let among = is_row_among(clauses, lost, l, set, either)?;
+        if !among {
+            return Ok(false);
         }
         from = l + 1;
     }
-    true
+    Ok(true)
 }
 
-/// Whether a group breaks nothing for a reason that is seen at once: each literal of a clause that it may break is known
-/// and taken by no group.
+/// Whether a group breaks nothing more for a reason that is seen at once: each literal of a clause that it may break is
+/// known and taken by no group, or the clause is lost.
 pub fn is_harmless(
     clauses: &[BitRow],
+    lost: &[BitRow],
     takers: &Takers,
     group: &Group,
     known: &BitRow,
-    room: &mut BitRow,
+    room: &mut Room,
 ) -> Result<bool, AllocError>
     requires few { length clauses.now ≤ 4096 }
+    requires lost { length lost.now ≡ length clauses.now }
     requires lits { IsSetOf (length clauses.now) (row_has group.now.opposites) }
-    ensures { IfOk result (λ harmless. harmless ≡ true → (l m : ℕ) → row_has group.now.opposites l ≡ true → clause_in clauses.now l m ≡ true → IsFirm takers.now (row_has known.now) m) }
+    ensures { IfOk result (λ harmless. harmless ≡ true → (l m : ℕ) → row_has group.now.opposites l ≡ true → clause_in clauses.now l m ≡ true → clause_in lost.now l m ≡ false → IsFirm takers.now (row_has known.now) m) }
 {
-    room.make_same(known)?;
-    room.subtract(&takers.plain);
-    room.subtract(&takers.by.literals);
-    Ok(are_among(clauses, &group.opposites, room))
+    room.there.make_same(known)?;
+    room.there.subtract(&takers.plain);
+    room.there.subtract(&takers.by.literals);
+    let among = are_among(
+        clauses,
+        lost,
+        &group.opposites,
+        &room.there,
+        &mut room.given,
+    )?;
+    Ok(among)
 }

@@ -12,6 +12,7 @@ ghost use Rattle.invariant_rounds.specs.Rounds.{IsRound};
 
 use crate::broken::add_losses_of;
 use crate::drop::drop_lost;
+use crate::takers::Room;
 use bit_sets::row::{BitRow, empty_rows};
 use gt_core::act::Act;
 use gt_core::task::Task;
@@ -41,7 +42,10 @@ fn piece_losses(
     let low = PIECE * piece;
     let count = PIECE.min(todo.len() - low);
     let mut lost = empty_rows(alloc, 2 * facts as usize)?;
-    let mut room = BitRow::new(alloc);
+    let mut room = Room {
+        there: BitRow::new(alloc),
+        given: BitRow::new(alloc),
+    };
     for i in low..low + count {
         add_losses_of(
             alloc,

@@ -1,4 +1,4 @@
-use Rattle.std.proofs.Common.{arith, ◌≡◌, ◌∙◌, ◌*◌, ◌<◌, ◌⊎◌, inl, inr, ap, sym, subst, not, true, length, ◌&&◌, ◌||◌, Bool, ℕ}
+use Rattle.std.proofs.Common.{arith, ◌≡◌, ◌∙◌, ◌*◌, ◌<◌, ◌⊎◌, inl, inr, ap, sym, subst, not, true, length, ◌&&◌, ◌||◌, Bool, ℕ, List}
 use Rattle.std.specs.List.{list_all}
 use Rattle.bit_sets.specs.Rows.{row_has}
 use Rattle.gt_core.specs.Literal.{opposite}
@@ -113,6 +113,9 @@ is_harmless-requires-clause-few c = let few = c.requires.clauses.few in let long
 pub is_harmless-requires-clause-lits : goal.is_harmless-requires-clause-lits
 is_harmless-requires-clause-lits c = λ m t. subst (λ (n : ℕ). m < n) (sym c.requires.clauses.long) (c.requires.group.within m t)
 
+pub is_harmless-requires-clause-lost : goal.is_harmless-requires-clause-lost
+is_harmless-requires-clause-lost c = ap (λ (ls : List (List ℕ)). length ls) c.as_slice-so_far.ensures.value ∙ c.requires.rows ∙ sym c.requires.clauses.long
+
 pub returns-then-harmless-clause-lost : goal.returns-then-harmless-clause-lost
 returns-then-harmless-clause-lost c = λ l m.
     let facts = c.args.before.now.facts in
@@ -124,5 +127,5 @@ returns-then-harmless-clause-lost c = λ l m.
     let here : row_has c.in_ok-known.known ≡ with_more rows set cond = (λ i k. c.in_ok-known.ensures k i) ∙ (λ i. with_more rows set (c.as_slice.ensures.value i)) in
     let takers = takers_more facts rows set (row_has c.in_ok-known.known) groups (length groups) c.args.takers.now (λ k t. c.in_ok-known.ensures k ∙ more_of rows set c.as_slice.result.now k t) c.requires.takers in
     kept_sure (clause_in c.args.lost.now.items l m) (clause_in c.args.clauses.now l m) (row_has c.args.group.now.literals (opposite l)) (may_take_by facts has (with_more rows set cond) l) (is_sure_by facts rows has (with_more rows set cond) m)
-    (λ i v. (λ j. is_sure_by facts rows has (sym here j) m) ∙ firm_sure facts (2 * facts) rows groups (row_has c.in_ok-known.known) c.args.takers.now c.requires.before.groups takers m
-    (c.in_ok-harmless.ensures c.if-harmless.true l m (c.requires.group.turned l ∙ i) v))
+    (λ f i v. (λ j. is_sure_by facts rows has (sym here j) m) ∙ firm_sure facts (2 * facts) rows groups (row_has c.in_ok-known.known) c.args.takers.now c.requires.before.groups takers m
+    (c.in_ok-harmless.ensures c.if-harmless.true l m (c.requires.group.turned l ∙ i) v (ap (λ (ls : List (List ℕ)). clause_in ls l m) c.as_slice-so_far.ensures.value ∙ f)))

@@ -5,6 +5,7 @@ use Rattle.gt_core.specs.Literal.{opposite}
 use Rattle.gt_core.specs.Task.{Effect}
 use Rattle.implied_literals.specs.Rows.{clause_in}
 use Rattle.implied_literals.specs.Tested.{EffectFits, AreRowsOf, with_more, has_no_pair, breaks_by}
+use Rattle.invariant_rounds.specs.Harmless.{IsKept}
 use Rattle.invariant_rounds.specs.Plain.{breaks_plainly, has_opposite}
 use Rattle.invariant_rounds.specs.Groups.{effect_with, group_with, breaks_under, GroupFits}
 use Rattle.invariant_rounds.specs.declared.groups.Group.{Group}
@@ -74,14 +75,19 @@ returns-then-are_plain-clause-lost c = λ l m.
 pub are_harmless-requires-clause-effects : goal.are_harmless-requires-clause-effects
 are_harmless-requires-clause-effects c = subst (λ (es : List Effect). AllByRecursion (EffectFits (2 * c.args.facts)) es) (sym c.effects-effects.ensures) c.requires.act.effects
 
+pub are_harmless-requires-clause-lost : goal.are_harmless-requires-clause-lost
+are_harmless-requires-clause-lost c = ap (λ (ls : List (List ℕ)). length ls) c.as_slice-so_far.ensures.value ∙ c.requires.lost
+
 pub returns-then-harmless-clause-lost : goal.returns-then-harmless-clause-lost
 returns-then-harmless-clause-lost c = λ l m.
     let known = c.args.known.now in
     let x = c.args.act.now in
     let none = row_has known.none in
     let value = c.as_slice-rows.ensures.value in
+    let clauses = c.args.clauses.now in
     let set : row_has c.in_ok-set.set ≡ with_more known.rows.items none x.precondition = (λ i m. c.in_ok-set.ensures m i) ∙ (λ i. with_more (value i) none (c.pre.ensures i)) in
-    let firm = subst (λ (es : List Effect). (l m : ℕ) → has_opposite es l ≡ true → clause_in c.args.clauses.now l m ≡ true → (row_has c.in_ok-set.set m && not (has_opposite es m)) ≡ true) c.effects-effects.ensures (c.in_ok-harmless.ensures c.if-harmless.true) in
-    nothing_more (clause_in c.args.lost.now.items l m) (clause_in c.args.clauses.now l m) (breaks_by c.args.facts known x l m)
-    (not_broken c.args.facts known.rows.items x.effects (with_more known.rows.items none x.precondition) c.args.clauses.now
-    (subst (λ (s : ℕ → Bool). (l m : ℕ) → has_opposite x.effects l ≡ true → clause_in c.args.clauses.now l m ≡ true → (s m && not (has_opposite x.effects m)) ≡ true) set firm) l m)
+    let firm = subst (λ (es : List Effect). has_opposite es l ≡ true → IsKept clauses c.as_slice-so_far.result.now (λ k. row_has c.in_ok-set.set k && not (has_opposite es k)) l m) c.effects-effects.ensures (c.in_ok-harmless.ensures c.if-harmless.true l m) in
+    let kept = subst (λ (s : ℕ → Bool). has_opposite x.effects l ≡ true → IsKept clauses c.as_slice-so_far.result.now (λ k. s k && not (has_opposite x.effects k)) l m) set firm in
+    nothing_more (clause_in c.args.lost.now.items l m) (clause_in clauses l m) (breaks_by c.args.facts known x l m)
+    (λ f v. not_broken c.args.facts known.rows.items x.effects (with_more known.rows.items none x.precondition) l m
+    (λ o. kept o v (ap (λ (ls : List (List ℕ)). clause_in ls l m) c.as_slice-so_far.ensures.value ∙ f)))

@@ -1,10 +1,10 @@
-use Rattle.std.proofs.Common.{◌≡◌, ◌-◌, ◌<◌, true, ℕ, length}
+use Rattle.std.proofs.Common.{◌≡◌, ◌-◌, ◌<◌, true, false, ℕ, length}
 use Rattle.bit_sets.specs.Rows.{row_has}
 use Rattle.implied_literals.specs.Rows.{clause_in}
 use Rattle.invariant_rounds.proofs.harmless.are_among.Given as goal
 
 abbrev pub invariant-loop-l : goal.invariant-loop-l
-invariant-loop-l l = (k m : ℕ) → k < l.from → row_has l.lits k ≡ true → clause_in l.clauses k m ≡ true → row_has l.set m ≡ true
+invariant-loop-l l = (k m : ℕ) → k < l.from → row_has l.lits k ≡ true → clause_in l.clauses k m ≡ true → clause_in l.lost k m ≡ false → row_has l.set m ≡ true
 
 abbrev pub decreases-loop-l : goal.decreases-loop-l
 decreases-loop-l l = length l.clauses - l.from
