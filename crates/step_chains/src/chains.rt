@@ -17,6 +17,7 @@ use crate::index::{LinkIndex, literals};
 use crate::link::Link;
 use action_order::order::Order;
 use clause_base::memory::Memory;
+use containers::let_go;
 use gt_core::task::Task;
 use std::alloc::Global;
 use std::marker::Model;
@@ -31,11 +32,7 @@ pub struct Chains {
 
 impl Drop for Chains {
     fn drop(self) {
-        let Chains {
-            actions: _,
-            chains: _,
-            variables: _,
-        } = self;
+        let_go!(self: Chains { actions, chains, variables });
     }
 }
 
@@ -51,6 +48,17 @@ impl Model for Chains {
 
 impl Chains {
     ghost use Rattle.step_chains.specs.Chains.{no_chains};
+
+    /// No chain yet.
+    pub fn new(alloc: Global, task: &Task) -> Chains
+        ensures { result ≡ no_chains (length task.now.actions) }
+    {
+        Chains {
+            actions: task.acts().len() as u32,
+            chains: Vec::new(alloc),
+            variables: 0,
+        }
+    }
 
     /// The chains of exists-steps: those of each component of an order of the task's actions, component after component
     /// and literal after literal.
@@ -78,17 +86,6 @@ impl Chains {
         let mut index = LinkIndex::new(alloc, task.facts())?;
         chains.add_members(alloc, task, actions.as_slice(), &mut index, true)?;
         Ok(chains)
-    }
-
-    /// No chain yet.
-    pub fn new(alloc: Global, task: &Task) -> Chains
-        ensures { result ≡ no_chains (length task.now.actions) }
-    {
-        Chains {
-            actions: task.acts().len() as u32,
-            chains: Vec::new(alloc),
-            variables: 0,
-        }
     }
 
     /// How many chain variables there are.

@@ -13,6 +13,7 @@ use crate::link::{Link, Links, mark};
 use bit_sets::row::BitRow;
 use clause_base::memory::Memory;
 use containers::equal::items_of;
+use containers::let_go;
 use gt_core::eff::Eff;
 use gt_core::lits::opposite;
 use gt_core::task::Task;
@@ -28,10 +29,7 @@ pub struct LinkIndex {
 
 impl Drop for LinkIndex {
     fn drop(self) {
-        let LinkIndex {
-            lists: _,
-            touched: _,
-        } = self;
+        let_go!(self: LinkIndex { lists, touched });
     }
 }
 

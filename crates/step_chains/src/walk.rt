@@ -1,6 +1,4 @@
 //! A walk along the links of a chain.
-ghost use Rattle.std.specs.Prelude.{◌≡◌, ◌≤◌, true, false, count_by};
-ghost use Rattle.step_chains.specs.Walk.{IsAfter};
 
 use crate::chain::{Chain, left_after, readers};
 use crate::link::Link;
@@ -15,6 +13,9 @@ pub(crate) struct Walk {
 }
 
 impl Walk {
+    ghost use Rattle.std.specs.Prelude.{◌≡◌, ◌≤◌, true, false, count_by};
+    ghost use Rattle.step_chains.specs.Walk.{IsAfter};
+
     /// Before the first link.
     pub(crate) fn of(chain: &Chain) -> Walk
         ensures seen { result.seen ≡ false }
