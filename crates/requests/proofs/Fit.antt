@@ -73,34 +73,3 @@ numbers_of by Prove rows passed =
     (each (codes "horizon") _ 0 255 refl refl, each (codes "budget") _ 0 1000000 refl refl)
 numbers_of by Verify rows passed = tt
 numbers_of by Batch rows passed = race_of by.algorithms (command_of by Batch).top.rules rows passed refl
-
--- ---- what is asked for
-
--- a command that is the fixed one but for where its lists lie, and takes the words, asks for what the fixed one does
-pub asked : (by : Readers) → AreReaders by → (name : Name) (words : List Text) (app : App) (rows : List Row) (o : Option Seen) → app ≡ command_of by name
-    → ((fixed : App) → IsSame app fixed → true ≡ takes fixed words) → ((fixed : App) → IsSame app fixed → rows ≡ matches_of fixed words)
-    → o ≡ counted (seen_in name rows) → o ≡ requested_of name words
-asked by are name words app rows o is taken found seen =
-    let same = subst (λ (a : App). IsSame a (command_of lists name)) (sym is) (as_lists by are name) in
-    (seen ∙ ap (λ (rs : List Row). counted (seen_in name rs)) (found (command_of lists name) same))
-    ∙ ap (λ (b : Bool). if b then counted (seen_in name (matches_of (command_of lists name) words)) else None) (taken (command_of lists name) same)
-
--- and one that refuses them asks for nothing
-pub unasked : (by : Readers) → AreReaders by → (name : Name) (words : List Text) (app : App) → app ≡ command_of by name
-    → ((fixed : App) → IsSame app fixed → false ≡ takes fixed words) → None ≡ requested_of name words
-unasked by are name words app is refused =
-    let same = subst (λ (a : App). IsSame a (command_of lists name)) (sym is) (as_lists by are name) in
-    ap (λ (b : Bool). if b then counted (seen_in name (matches_of (command_of lists name) words)) else None) (refused (command_of lists name) same)
-
-pub no_words : (words : List (String Global)) → slice_get words 0 ≡ None → command_named (map string_bytes words) ≡ None
-no_words [] none = refl
-no_words (x ∷ xs) none = absurd (true≢false (ap is_some none))
-
-pub by_first : (words : List (String Global)) (word : String Global) → slice_get words 0 ≡ Some word → command_named (map string_bytes words) ≡ named (string_bytes word)
-by_first [] word at = absurd (true≢false (sym (ap is_some at)))
-by_first (x ∷ xs) word at =
-    let same : x ≡ word = ap (λ (o : Option (String Global)). unwrap_or o x) at in
-    ap (λ (w : String Global). named (string_bytes w)) same
-
-pub none_asked : (words : List Text) → command_named words ≡ None → None ≡ requested words
-none_asked words none = sym (ap (option_and_then (λ n. requested_of n words)) none)
