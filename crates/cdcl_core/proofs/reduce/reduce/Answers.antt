@@ -1,7 +1,7 @@
 use Rattle.std.proofs.Common.{◌++◌, ℕ, List, Bool, length, map, ap, sym, ◌∙◌, subst}
 use Rattle.clause_base.specs.Clause.{IsRising}
 use Rattle.clause_base.specs.declared.log.Entry.TheVariants.{Drop}
-use Rattle.cdcl_rules.specs.Reduce.{first_half, kept_without}
+use Rattle.cdcl_rules.specs.Reduce.{kept_without}
 use Rattle.conflict_walk.specs.Clauses.{ClausesView, all_clauses}
 use Rattle.propagation.specs.Pending.{PropagatorView}
 use Rattle.cdcl_core.specs.Search.{AreKept}
