@@ -9,7 +9,7 @@ use Rattle.step_encoding.specs.Limits.{planner_literals}
 use Rattle.step_encoding.specs.Numbers.{literals_of}
 use Rattle.race_end.specs.Ends.{LineView, EndView, lines_in}
 use Rattle.race.specs.Input.{RaceInput}
-use Rattle.race.specs.State.{LiveRun, RaceState, live_at, start, spent}
+use Rattle.race.specs.State.{LiveRun, RaceState, live_at, spent}
 use Rattle.race.specs.Starts.{fitting, started, fill, filled, too_large}
 use Rattle.race.specs.Grants.{grants, raised, advanced}
 use Rattle.race.specs.Found.{first_found, open_line, lines}
@@ -61,11 +61,12 @@ module _ (input : RaceInput) where
 
   fill_fits : (n : ℕ) (race : RaceState) → DoFit race → DoFit (fill input n race)
   fill_fits zero race fit = fit
-  fill_fits (suc n) race fit = step (fitting input (listed input.rates race.next)) refl
+  fill_fits (suc n) race fit = step (λ k. fill_fits n (started input k race)) (fitting input (listed input.rates race.next)) refl
     where
-      step : (o : Option ℕ) → fitting input (listed input.rates race.next) ≡ o → DoFit (elim o as (λ _. RaceState) [ Some k ↦ fill input n (started input k race) | None ↦ race ])
-      step None e = fit
-      step (Some k) e = fill_fits n (started input k race) (one_more race.live (live_at input k 0) fit.0 (fitting_fits (listed input.rates race.next) k e), fit.1)
+      step : ((k : ℕ) → DoFit (started input k race) → DoFit (fill input n (started input k race))) → (o : Option ℕ) → fitting input (listed input.rates race.next) ≡ o
+          → DoFit (elim o as (λ _. RaceState) [ Some k ↦ fill input n (started input k race) | None ↦ race ])
+      step more None e = fit
+      step more (Some k) e = more k (one_more race.live (live_at input k 0) fit.0 (fitting_fits (listed input.rates race.next) k e), fit.1)
 
   filled_fits : (race : RaceState) → DoFit race → DoFit (filled input race)
   unfolding filled

@@ -1,8 +1,7 @@
 -- What is written as a certificate is accepted.
-use Rattle.std.proofs.Common.{◌≡◌, ◌≤◌, ℕ, ◌+◌, nat_le, Bool, true, false, if◌then◌else◌, List, [], ◌∷◌, length, refl, sym, ap, subst, ◌∙◌, arith, inl, inr}
+use Rattle.std.proofs.Common.{◌≡◌, ◌≤◌, ℕ, nat_le, Bool, true, false, if◌then◌else◌, List, [], ◌∷◌, length, refl, sym, ap, subst, ◌∙◌, arith, inl, inr}
 use Rattle.std.proofs.lemmas.Bool.Decides.{nat_tests}
 use Rattle.pl_io.specs.Outside.{Heard}
-use Rattle.clause_base.specs.Formula.{Cnf}
 use Rattle.clause_base.specs.declared.log.Entry.{Entry}
 use Rattle.cdcl_rules.specs.State.{State}
 use Rattle.cdcl_rules.specs.declared.standing.Standing.{Standing}
@@ -17,7 +16,7 @@ use Rattle.step_encoding.specs.Numbers.{literals_of}
 use Rattle.step_laws.specs.Form.{OrderedTask}
 use Rattle.certificates.specs.Known.{IsOrdered, form_of, formula_at}
 use Rattle.certificates.specs.Certificate.{IsCertificate}
-use Rattle.certificates.specs.Proved.{Proves, certificate_of, most_bytes, proved_as}
+use Rattle.certificates.specs.Proved.{Proves, most_bytes, proved_as}
 use Rattle.certificates.specs.Judged.{IsJudged}
 use Rattle.certificates.specs.declared.prove.Proved.{Proved}
 use Rattle.certificates.specs.declared.prove.Proved.TheVariants as proved
@@ -25,23 +24,21 @@ use Rattle.certificates.specs.declared.verify.Judged.{Judged}
 use Rattle.certificates.specs.declared.verify.Judged.TheVariants as judged
 use Rattle.requests.specs.Seen.{proves, verifies}
 use Rattle.requests.specs.declared.request.Stepping.TheVariants.{Exists}
-use Rattle.plan_endings.specs.declared.ending.File.{File}
 use Rattle.plan_endings.specs.declared.ending.File.TheVariants.{Proof}
 use Rattle.plan_endings.specs.declared.ending.Ending.{Ending}
-use Rattle.plan_endings.specs.declared.ending.Ending.TheVariants.{Listing, Refused, TooLong, TooMany, TooLarge, Found as FoundPlan, Open}
+use Rattle.plan_endings.specs.declared.ending.Ending.TheVariants.{Listing, TooLong, TooLarge, Found as FoundPlan, Open}
 use Rattle.plan_endings.specs.Ending.{status_of}
 use Rattle.input_files.specs.Limits.{file_at}
-use Rattle.input_files.specs.Files.{AreOf}
-use Rattle.plan_answers.specs.Tasks.{AreTask, IsReady, StopsTask, refused, past, OnceRead, not_read, read, OnceGrounded, not_grounded, grounded}
+use Rattle.plan_answers.specs.Tasks.{IsReady, OnceRead, not_read, read, OnceGrounded, not_grounded, grounded}
 use Rattle.plan_answers.specs.Answers.{AnswersProve, not_run, run, AnswersProof, not_checked, checked, AnswersVerify, unfit, beyond, spelled, ending_of_run, ending_of_check}
 use Rattle.plan_claims.specs.Laws.{Laws}
-use Rattle.plan_top.specs.Causes.{HasRead, ComesFor, Comes}
+use Rattle.plan_top.specs.Causes.{HasRead, Comes}
 use Rattle.plan_top.specs.OneReport.{AskToVerify}
 use Rattle.plan_top.proofs.Told.{asked_comes}
 use Rattle.plan_top.proofs.Reports.{is_stop}
 use Rattle.plan_top.proofs.Reported.{task_stops}
 use Rattle.plan_top.proofs.OneTask.{no_refusal, one_task, no_limit}
-use Rattle.plan_top.proofs.OneReport.{LongFrom, IsCause, long_stops, not_long, cause_of, one_judgement, one_form, not_small}
+use Rattle.plan_top.proofs.OneReport.{IsCause, long_stops, not_long, cause_of, one_judgement, one_form, not_small}
 
 -- what was written as a certificate, of a formula that is not too large, and no more bytes than it may have
 pub record IsWritten (g : Grounded) (horizon : ℕ) (text : List ℕ) : Type 0 where

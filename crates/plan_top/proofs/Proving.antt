@@ -1,11 +1,10 @@
 -- What `prove` comes to on a horizon that `plan` tells as refuted, or as found.
 use Rattle.std.proofs.Common.{◌≡◌, ◌≤◌, ℕ, ◌+◌, ◌-◌, nat_le, Bool, true, false, if◌then◌else◌, List, [], ◌∷◌, length, Option, refl, sym, ap, subst, ◌∙◌, arith, inl, inr, codes, get_or}
-use Rattle.std.specs.Prelude.{◌⊎◌, Contains, IsTrue}
+use Rattle.std.specs.Prelude.{◌⊎◌, IsTrue}
 use Rattle.pl_io.specs.Outside.{Heard}
 use Rattle.report_lines.specs.Horizons.{Says, is_word}
 use Rattle.clause_base.specs.Choice.{Known}
 use Rattle.clause_base.specs.Formula.{Cnf}
-use Rattle.clause_base.specs.declared.log.Entry.{Entry}
 use Rattle.cdcl_rules.specs.Run.{is_going}
 use Rattle.cdcl_rules.specs.State.{State}
 use Rattle.cdcl_rules.specs.declared.standing.Standing.{Standing}
@@ -16,13 +15,12 @@ use Rattle.grounding_laws.specs.Grounded.{Grounded, IsGrounded}
 use Rattle.proof_text.specs.Text.{proof_text}
 use Rattle.horizon_formula.specs.Variables.{chain_places}
 use Rattle.horizon_run.specs.Run.{reached, Stays}
-use Rattle.race_end.specs.Ends.{Word, WordRefuted, WordDropped, WordOpen, WordPlan, end_view, lines_in}
+use Rattle.race_end.specs.Ends.{Word, WordRefuted, WordDropped, WordOpen, WordPlan, end_view}
 use Rattle.plan_report.specs.Report.{word_text}
-use Rattle.plan_report.specs.Laws.{Tells}
 use Rattle.step_encoding.specs.Limits.{planner_literals}
 use Rattle.step_encoding.specs.Numbers.{literals_of}
-use Rattle.certificates.specs.Known.{IsOrdered, form_of, choice_at, formula_at, HasTooMany}
-use Rattle.certificates.specs.Proved.{Proves, certificate_of, most_bytes, proved_as, proved_of}
+use Rattle.certificates.specs.Known.{IsOrdered, form_of, choice_at, formula_at}
+use Rattle.certificates.specs.Proved.{Proves, most_bytes, proved_as}
 use Rattle.certificates.specs.declared.prove.Proved.{Proved}
 use Rattle.certificates.specs.declared.prove.Proved.TheVariants as proved
 use Rattle.requests.specs.Seen.{proves, plans}
@@ -34,7 +32,7 @@ use Rattle.plan_endings.specs.Ending.{text_of}
 use Rattle.plan_endings.specs.declared.ending.Ending.TheVariants.{Report, Listing, TooLong, Found as FoundPlan}
 use Rattle.input_files.specs.Limits.{file_at}
 use Rattle.plan_answers.specs.Stepping.{places_by}
-use Rattle.plan_answers.specs.Tasks.{AreTask, IsReady, OnceGrounded, not_grounded, grounded}
+use Rattle.plan_answers.specs.Tasks.{IsReady, OnceGrounded, not_grounded, grounded}
 use Rattle.plan_answers.specs.Raced.{input_of}
 use Rattle.plan_answers.specs.Answers.{AnswersProve, not_run, run, ending_of_run}
 use Rattle.plan_claims.specs.Headline.{OfGrounded, IsSo, LineIsSo, standing_of}
@@ -44,7 +42,7 @@ use Rattle.plan_top.specs.Causes.{HasRead, Comes}
 use Rattle.plan_top.specs.OneReport.{AskToProve}
 use Rattle.plan_top.proofs.Fits.{line_fits}
 use Rattle.plan_top.proofs.OneTask.{one_task, no_stop}
-use Rattle.plan_top.proofs.OneReport.{IsCause, LongFrom, cause_of, long_stops, not_long, not_small}
+use Rattle.plan_top.proofs.OneReport.{IsCause, cause_of, long_stops, not_long, not_small}
 use Rattle.plan_top.proofs.Reported.{Raced, raced, said_of}
 use Rattle.plan_top.proofs.Reports.{is_stop}
 use Rattle.plan_top.proofs.Told.{asked_comes}

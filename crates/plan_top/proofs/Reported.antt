@@ -1,69 +1,35 @@
 -- What an ending says that stops no run, and the report of a race.
-use Rattle.std.proofs.Common.{◌≡◌, ◌≤◌, ◌+◌, ℕ, Bool, true, false, List, [], ◌∷◌, Option, Some, None, Ok, refl, sym, ap, subst, ◌∙◌, arith, inl, inr, codes, map, append-nil}
-use Rattle.std.specs.Prelude.{◌++◌, IsTrue, Contains, ◌⊎◌, slice_get}
-use Rattle.std.proofs.lemmas.Bool.Decides.{eqb_tells}
-use Rattle.pl_io.specs.Outside.{Heard, whole, appended, TakesFront}
-use Rattle.report_lines.specs.Lines.{lines_of}
+use Rattle.std.proofs.Common.{◌≡◌, ◌≤◌, ◌+◌, ℕ, true, List, [], ◌∷◌, refl, sym, ap, subst, ◌∙◌, arith, inl, inr}
+use Rattle.std.specs.Prelude.{IsTrue}
+use Rattle.pl_io.specs.Outside.{Heard}
 use Rattle.report_lines.specs.Horizons.{Says, is_word}
 use Rattle.horizon_rates.specs.declared.settings.Settings.{Settings}
-use Rattle.pd_model.specs.Plan.{IsPlan, verdict}
-use Rattle.pd_model.specs.declared.calls.Call.{Call}
-use Rattle.pd_model.specs.declared.calls.Verdict.{Verdict}
-use Rattle.pd_model.specs.declared.calls.Verdict.TheVariants as verdicts
 use Rattle.pd_model.specs.declared.parts.Parts.{Parts}
 use Rattle.plan_endings.specs.declared.ending.File.{File}
-use Rattle.pd_plan.specs.PlanFile.{plan_file}
 use Rattle.pd_plan.specs.Fault as plan
 use Rattle.grounding_laws.specs.Grounded.{Grounded}
 use Rattle.race_end.specs.declared.end.RaceEnd.{RaceEnd}
 use Rattle.race_end.specs.declared.end.RaceEnd.TheVariants as races
 use Rattle.race_end.specs.Ends.{end_view, lines_in}
-use Rattle.plan_report.specs.Report.{report_of, plan_line}
+use Rattle.plan_report.specs.Report.{report_of}
 use Rattle.plan_report.specs.Laws.{IsSmall as IsSmallReport, HasCalls, Tells}
-use Rattle.requests.specs.Seen.{Seen, Numbers, numbers, plans, plans_by, checks, grounds, orders, generates, proves, verifies, batches, files_of}
+use Rattle.requests.specs.Seen.{numbers}
 use Rattle.requests.specs.declared.request.Stepping.{Stepping}
-use Rattle.requests.specs.declared.request.Turns.{Turns}
-use Rattle.requests.specs.OneTask.{IsOfOne}
-use Rattle.requests.specs.Requested.{requested}
-use Rattle.plan_endings.specs.declared.ending.Outcome.{Outcome}
-use Rattle.plan_endings.specs.declared.ending.Outcome.TheVariants as outcomes
 use Rattle.plan_endings.specs.declared.ending.Ending.{Ending}
-use Rattle.plan_endings.specs.declared.ending.Ending.TheVariants.{Report, Listing, Reaches, Blocked, Short, Refused, TooLong, TooMany, TooLarge, ReadFault, Usage, Found, Open, Accepted, Rejected, NotEmpty, Parts as Batched}
-use Rattle.input_files.specs.Limits.{file_at}
-use Rattle.input_files.specs.Files.{AreTaken, StopsFrom, FaultsFrom, RoseAmong}
-use Rattle.input_files.proofs.Hearing.{two_taken, three_taken}
+use Rattle.plan_endings.specs.declared.ending.Ending.TheVariants.{Report}
+use Rattle.input_files.specs.Files.{StopsFrom}
 use Rattle.plan_answers.specs.Stepping.{places_by, is_plan_by}
-use Rattle.plan_answers.specs.Tasks.{AreTask, RefusesTask, IsReady, StopsTask, refused, past, OnceRead, not_read, read, OnceGrounded, not_grounded, grounded}
+use Rattle.plan_answers.specs.Tasks.{AreTask, RefusesTask, IsReady, StopsTask, refused, past, OnceGrounded, not_grounded, grounded}
 use Rattle.plan_answers.specs.Raced.{ComesTo, too_large, ended, outcome_of}
-use Rattle.plan_answers.specs.Answers.{Decides, AnswersPlan, AnswersGround, AnswersOrder, AnswersCheck, AnswersProve, not_run, run, AnswersVerify, unfit, beyond, spelled, not_checked, checked, ending_of_run, ending_of_check, refusal_of_plan, ending_of}
-use Rattle.plan_top.specs.Causes.{is_answer, HasRead, ComesFor, stopped, decided, IsPartOf, ArePartsOf, IsBatchOf, ArePartsSo, Comes, no_request, of_one, unread, in_parts, names_in, FaultOf}
-use Rattle.horizon_formula.specs.Variables.{chain_places}
-use Rattle.clause_base.specs.Formula.{Cnf}
-use Rattle.clause_base.specs.Derivation.{IsRefutation}
-use Rattle.clause_base.specs.declared.log.Entry.{Entry}
-use Rattle.proof_text.specs.Text.{spaced, entry_words}
-use Rattle.certificates.specs.Known.{form_of, formula_at}
-use Rattle.certificates.specs.Certificate.{IsSpelled, IsCertificate}
-use Rattle.certificates.specs.Proved.{Proves}
-use Rattle.certificates.specs.Judged.{IsJudged, Judges}
-use Rattle.certificates.specs.declared.prove.Proved.{Proved}
-use Rattle.certificates.specs.declared.prove.Proved.TheVariants as proved
-use Rattle.certificates.specs.declared.verify.Judged.{Judged}
-use Rattle.certificates.specs.declared.verify.Judged.TheVariants as judged
-use Rattle.requests.specs.declared.request.Stepping.TheVariants.{Exists, All}
-use Rattle.plan_top.specs.Complete.{GoesWell, IsGood}
-use Rattle.plan_top.specs.OneReport.{AskForOne, AskForOnePart, AskToVerify}
-use Rattle.plan_endings.specs.Ending.{status_of, status_of_race, text_of, greatest, parts_text, batch_of, IsSmall}
-use Rattle.plan_claims.specs.Headline.{Printed, OfFiles, OfThreeFiles, OfPlans, PlanRuns, EveryOrderRuns, HasAtLeast, HasPlanOf, TellsExhausted, NoStepPlan, NoPlan, LineIsSo, SpendsAll, PartIsSo, Certifies, CertifiesNothing, ProvesNone, TellsGround, TellsOrder, AreCallsOfPlan, AreCallsOfNoPlan}
+use Rattle.plan_answers.specs.Answers.{AnswersPlan, run, refusal_of_plan}
+use Rattle.requests.specs.declared.request.Stepping.TheVariants.{All}
+use Rattle.plan_endings.specs.Ending.{status_of, status_of_race, text_of}
+use Rattle.plan_claims.specs.Headline.{PlanRuns, EveryOrderRuns, TellsExhausted, SpendsAll}
 use Rattle.plan_claims.specs.Laws.{Laws}
 use Rattle.plan_claims.proofs.Claims as claims
 use Rattle.plan_claims.proofs.EveryOrder.{every_order}
-use Rattle.plan_top.proofs.Told.{task_refusal, asked_comes, asked_parts, not_asked_comes}
-use Rattle.plan_top.proofs.Reports.{is_stop, stop_status, stop_says_nothing, printed_is, printed_front, nothing_said}
-use Rattle.plan_claims.proofs.Verdicts.{reaches_is_plan, plan_reaches}
-use Rattle.plan_top.proofs.Complete.{complete as goes_well}
-use Rattle.plan_top.proofs.OneReport.{one_ending, part_at, has_read}
-use Rattle.plan_top.proofs.Passing.{passes as certificate_passes}
+use Rattle.plan_top.proofs.Told.{task_refusal}
+use Rattle.plan_top.proofs.Reports.{is_stop, stop_status}
 
 -- ---- endings that stop a run
 
