@@ -20,6 +20,7 @@ use step_encoding::steps::Steps;
 use test_gates::Notes;
 
 /// A form under a number, and what notes that number where its formula is asked for.
+#[derive(Drop)]
 struct NotingForm<'a, F> {
     form: F,
     number: u32,
