@@ -7,7 +7,7 @@ use Rattle.gt_core.specs.Task.{Task}
 use Rattle.gt_core.specs.Clauses.{KnownClauses}
 use Rattle.gt_core.specs.Published.{IsPublished, order_of}
 use Rattle.gt_core.specs.Step.{IsStepPlan}
-use Rattle.horizon_run.specs.Run.{reached, choice_of}
+use Rattle.horizon_run.specs.Run.{reached, choice_of, Stays}
 use Rattle.horizon_formula.specs.Variables.{layout_of, chain_places}
 use Rattle.step_laws.specs.Form.{OrderedTask, AreSets}
 use Rattle.step_encoding.specs.Limits.{planner_literals}
@@ -38,11 +38,14 @@ module _ (task : Task) (known : KnownClauses) (components : List (List ℕ)) (fa
   abbrev is_proved : ℕ → Proved → OrderedTask → Type 0
   is_proved budget p f = p ≡ proved_of horizon (reached (choice_of task (layout_of f.task (chain_places f.task f.components) horizon)) (formula_at chain_places f horizon) budget)
 
+  abbrev does_stay : OrderedTask → Type 0
+  does_stay f = Stays (choice_of task (layout_of f.task (chain_places f.task f.components) horizon)) (formula_at chain_places f horizon)
+
   pub proves : (budget : ℕ) (r : Result Proved ProofError) → IfOk r (λ p. is_proved budget p form) → IfOk r (λ p. is_small form)
       → ((text : List ℕ) → r ≡ Ok (Certificate text) → IsCertificate (formula_at chain_places form) text horizon)
       → ((conflicts : ℕ) → r ≡ Ok (Open conflicts) → conflicts ≡ budget) → ((conflicts : ℕ) → r ≡ Ok (Plan conflicts) → (values : List Bool) × IsModel (formula_at chain_places form horizon) values)
-      → IfOk r (Proves task horizon budget)
-  proves budget (Ok p) is small certified spent found = record {
+      → IfOk r (λ p. does_stay form) → IfOk r (Proves task horizon budget)
+  proves budget (Ok p) is small certified spent found stay = record {
     clauses = known.clauses;
     components = components;
     ordered = record { known = invariants; published = published };
@@ -51,8 +54,9 @@ module _ (task : Task) (known : KnownClauses) (components : List (List ℕ)) (fa
     certified = λ text e. subst (λ (f : OrderedTask). IsCertificate (formula_at chain_places f) text horizon) same (certified text (ap Ok e));
     spent = λ conflicts e. spent conflicts (ap Ok e);
     found = λ conflicts e. subst (λ (f : OrderedTask). (values : List Bool) × IsModel (formula_at chain_places f horizon) values) same (found conflicts (ap Ok e));
+    stays = subst does_stay same stay;
   }
-  proves budget (Err e) is small certified spent found = tt
+  proves budget (Err e) is small certified spent found stay = tt
 
   pub judges : (log : List Entry) (r : Result Judged ProofError) → IfOk r (IsJudged (formula_at chain_places form horizon) log) → IfOk r (λ j. is_small form)
       → ((entries : ℕ) → r ≡ Ok (Accepted entries) → (steps : List (List ℕ)) → AreSets IsStepPlan form.task (order_of form.components) steps horizon → ⊥)

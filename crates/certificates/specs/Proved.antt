@@ -6,7 +6,7 @@ use Rattle.cdcl_rules.specs.State.{State}
 use Rattle.cdcl_rules.specs.declared.standing.Standing.{Standing}
 use Rattle.cdcl_rules.specs.declared.standing.Standing.TheVariants.{Going, Found, Refuted}
 use Rattle.gt_core.specs.Task.{Task}
-use Rattle.horizon_run.specs.Run.{reached}
+use Rattle.horizon_run.specs.Run.{reached, Stays}
 use Rattle.horizon_formula.specs.Variables.{chain_places}
 use Rattle.step_encoding.specs.Limits.{planner_literals}
 use Rattle.step_encoding.specs.Numbers.{literals_of}
@@ -35,7 +35,8 @@ abbrev pub proved_of : ℕ → State → Proved
 proved_of horizon state = proved_as horizon state.standing state
 
 -- The run of a horizon of a task comes to this once a budget of conflicts was granted. What it gives as a certificate is one;
--- where it is open it has used up the budget; and where it found a plan the formula of the horizon has a model.
+-- where it is open it has used up the budget; where it found a plan the formula of the horizon has a model; and a run that is settled stays as
+-- it is under each greater budget.
 pub record Proves (task : Task) (horizon budget : ℕ) (proved : Proved) : Type 0 where
   pub clauses : List (ℕ × ℕ)
   pub components : List (List ℕ)
@@ -45,3 +46,4 @@ pub record Proves (task : Task) (horizon budget : ℕ) (proved : Proved) : Type 
   pub certified : (text : List ℕ) → proved ≡ Certificate text → IsCertificate (formula_at chain_places (form_of task clauses components)) text horizon
   pub spent : (conflicts : ℕ) → proved ≡ Open conflicts → conflicts ≡ budget
   pub found : (conflicts : ℕ) → proved ≡ Plan conflicts → (values : List Bool) × IsModel (formula_at chain_places (form_of task clauses components) horizon) values
+  pub stays : Stays (choice_at chain_places (form_of task clauses components) horizon) (formula_at chain_places (form_of task clauses components) horizon)

@@ -1,7 +1,7 @@
 //! The certificate of a horizon, by its run.
 ghost use Rattle.std.specs.Prelude.{◌≡◌, ◌≤◌, ◌<◌, ℕ, Bool, List, Ok, Err, IfOk, false};
 ghost use Rattle.clause_base.specs.Formula.{IsModel};
-ghost use Rattle.horizon_run.specs.Run.{choice_of, reached};
+ghost use Rattle.horizon_run.specs.Run.{choice_in, choice_of, reached, Stays};
 ghost use Rattle.step_encoding.specs.{Limits.planner_literals, Numbers.literals_of};
 ghost use Rattle.certificates.specs.Known.{HasTooMany};
 ghost use Rattle.certificates.specs.Certificate.{IsSpelled, IsCertificate};
@@ -74,6 +74,7 @@ fn run_on<F: StepForm>(
     ensures certified { (text : List ℕ) → result ≡ Ok (Proved.Certificate text) → IsCertificate (F.formula_of form.now) text horizon }
     ensures spent { (conflicts : ℕ) → result ≡ Ok (Proved.Open conflicts) → conflicts ≡ budget }
     ensures found { (conflicts : ℕ) → result ≡ Ok (Proved.Plan conflicts) → (values : List Bool) × IsModel (F.formula_of form.now horizon) values }
+    ensures stays { IfOk result (λ p. Stays (choice_of task.now (F.layout_of form.now horizon)) (F.formula_of form.now horizon)) }
     ensures literals { (count : ℕ) → result ≡ Err (ProofError.Literals count) → (planner_literals < count) × (count ≡ literals_of (F.formula_of form.now horizon)) }
 {
     let count = form.size(horizon);
@@ -94,6 +95,7 @@ fn told(alloc: Global, horizon: u32, solving: &HorizonRun) -> Result<Proved, Mem
     ensures certified { (text : List ℕ) → result ≡ Ok (Proved.Certificate text) → IsCertificate (λ h. solving.now.formula) text horizon }
     ensures spent { (conflicts : ℕ) → result ≡ Ok (Proved.Open conflicts) → conflicts ≡ solving.now.granted }
     ensures found { (conflicts : ℕ) → result ≡ Ok (Proved.Plan conflicts) → (values : List Bool) × IsModel solving.now.formula values }
+    ensures stays { Stays (choice_in solving.now) solving.now.formula }
 {
     match solving.standing() {
         Standing::Refuted => certificate(alloc, horizon, solving.log()),

@@ -1,5 +1,6 @@
 // The tests, by what they are of, and the files of their runs.
 mod devices;
+mod drivers;
 mod orders;
 mod read_tasks;
 mod runs;

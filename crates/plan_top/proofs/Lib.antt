@@ -4,6 +4,9 @@ pub mod Complete
 mod OneTask
 mod OneReport
 mod Passing
+mod Fits
+mod Reported
+mod Proving
 pub mod Lists
 pub mod RaceEnds
 pub mod Turns

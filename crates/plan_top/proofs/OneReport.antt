@@ -1,5 +1,5 @@
 -- Runs on the same files by words that ask for the same have one ending.
-use Rattle.std.proofs.Common.{◌≡◌, ◌≤◌, ◌<◌, inl, inr, ℕ, zero, suc, ◌+◌, ◌==◌, if◌then◌else◌, List, [], ◌∷◌, ◌++◌, length, Option, Some, None, Ok, Err, refl, sym, ap, ap₂, subst, ◌∙◌, arith}
+use Rattle.std.proofs.Common.{◌≡◌, ◌≤◌, ◌<◌, inl, inr, ℕ, zero, suc, ◌+◌, ◌==◌, true, if◌then◌else◌, List, [], ◌∷◌, ◌++◌, length, Option, Some, None, Ok, Err, refl, sym, ap, ap₂, subst, ◌∙◌, arith}
 use Rattle.std.specs.Prelude.{◌⊎◌, slice_get}
 use Rattle.pl_io.specs.Outside.{Heard, IsSo}
 use Rattle.gt_core.specs.Task.{Task}
@@ -59,6 +59,7 @@ use Rattle.plan_answers.specs.Answers.{OfSettings, Decides, AnswersPlan, Answers
 use Rattle.plan_top.specs.Causes.{HasRead, ComesFor, stopped, decided, IsPartOf, ArePartsOf, IsBatchOf, Comes}
 use Rattle.plan_endings.specs.Ending.{status_of, batch_of}
 use Rattle.plan_top.specs.OneReport.{AreSameRace, AreSameAlone, plans_same, generates_same, checks_same, grounds_same, orders_same, proves_same, verifies_same, AreSame, alone, batches_same, AskForOnePart, OneEnding}
+use Rattle.plan_top.proofs.Reports.{is_stop}
 use Rattle.plan_top.proofs.Told.{asked_comes, asked_parts, one_request, same_parts}
 use Rattle.plan_top.proofs.Complete.{of_two, of_three}
 use Rattle.plan_top.proofs.OneTask.{no_limit, one_over, once_read, once_grounded}
@@ -203,6 +204,12 @@ one_long file place (f ∷ fs) x y (inl p) (inl q) = p.0 ∙ sym q.0
 one_long file place (f ∷ fs) x y (inl p) (inr q) = absurd (omega (arith, p.1, q.0))
 one_long file place (f ∷ fs) x y (inr p) (inl q) = absurd (omega (arith, p.0, q.1))
 one_long file place (f ∷ fs) x y (inr p) (inr q) = one_long file (place + 1) fs x y p.1 q.1
+
+-- so the ending tells why there is no answer
+pub long_stops : (file : ℕ → File) (place : ℕ) (files : List (List ℕ)) (end : Ending) → LongFrom file place files end → is_stop end ≡ true
+long_stops file place [] end h = absurd h
+long_stops file place (f ∷ fs) end (inl long) = ap is_stop long.0
+long_stops file place (f ∷ fs) end (inr more) = long_stops file (place + 1) fs end more.1
 
 pub not_long : (file : ℕ → File) (place : ℕ) (files : List (List ℕ)) (x : Ending) → LongFrom file place files x → AreShort file place files → ⊥
 not_long file place [] x p short = p

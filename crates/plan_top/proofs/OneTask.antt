@@ -161,7 +161,7 @@ module _ (one : OneResult) (domain problem : List ℕ) where
   one_stop x y (past a are p) (refused q) = absurd (no_refusal domain problem y a q are)
   one_stop x y (past a are p) (past b too q) = one_over one a x y p (subst (λ (t : Parts). TellsOver t y) (one_task domain problem b a too are) q)
 
-  no_stop : (x : Ending) (task : Parts) (g : Grounded) → StopsTask domain problem x → AreTask domain problem task → IsReady task g → ⊥
+  pub no_stop : (x : Ending) (task : Parts) (g : Grounded) → StopsTask domain problem x → AreTask domain problem task → IsReady task g → ⊥
   no_stop x task g (refused p) are ready = no_refusal domain problem x task p are
   no_stop x task g (past a too over) are ready =
       no_limit one task over.0 over.1 g (subst (λ (t : Parts). IsOver over.0 t over.1) (one_task domain problem a task too are) over.3) ready.grounded ready.fits

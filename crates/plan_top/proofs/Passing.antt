@@ -1,8 +1,7 @@
 -- What is written as a certificate is accepted.
-use Rattle.std.proofs.Common.{◌≡◌, ◌≤◌, ℕ, ◌+◌, nat_le, Bool, true, false, if◌then◌else◌, List, [], ◌∷◌, length, refl, sym, ap, subst, ◌∙◌, arith, inl, inr}
+use Rattle.std.proofs.Common.{◌≡◌, ◌≤◌, ℕ, nat_le, Bool, true, false, if◌then◌else◌, List, [], ◌∷◌, length, refl, sym, ap, subst, ◌∙◌, arith, inl, inr}
 use Rattle.std.proofs.lemmas.Bool.Decides.{nat_tests}
 use Rattle.pl_io.specs.Outside.{Heard}
-use Rattle.clause_base.specs.Formula.{Cnf}
 use Rattle.clause_base.specs.declared.log.Entry.{Entry}
 use Rattle.cdcl_rules.specs.State.{State}
 use Rattle.cdcl_rules.specs.declared.standing.Standing.{Standing}
@@ -17,7 +16,7 @@ use Rattle.step_encoding.specs.Numbers.{literals_of}
 use Rattle.step_laws.specs.Form.{OrderedTask}
 use Rattle.certificates.specs.Known.{IsOrdered, form_of, formula_at}
 use Rattle.certificates.specs.Certificate.{IsCertificate}
-use Rattle.certificates.specs.Proved.{Proves, certificate_of, most_bytes, proved_as}
+use Rattle.certificates.specs.Proved.{Proves, most_bytes, proved_as}
 use Rattle.certificates.specs.Judged.{IsJudged}
 use Rattle.certificates.specs.declared.prove.Proved.{Proved}
 use Rattle.certificates.specs.declared.prove.Proved.TheVariants as proved
@@ -25,21 +24,21 @@ use Rattle.certificates.specs.declared.verify.Judged.{Judged}
 use Rattle.certificates.specs.declared.verify.Judged.TheVariants as judged
 use Rattle.requests.specs.Seen.{proves, verifies}
 use Rattle.requests.specs.declared.request.Stepping.TheVariants.{Exists}
-use Rattle.plan_endings.specs.declared.ending.File.{File}
 use Rattle.plan_endings.specs.declared.ending.File.TheVariants.{Proof}
 use Rattle.plan_endings.specs.declared.ending.Ending.{Ending}
-use Rattle.plan_endings.specs.declared.ending.Ending.TheVariants.{Listing, Refused, TooLong, TooMany, TooLarge, Found as FoundPlan, Open}
+use Rattle.plan_endings.specs.declared.ending.Ending.TheVariants.{Listing, TooLong, TooLarge, Found as FoundPlan, Open}
 use Rattle.plan_endings.specs.Ending.{status_of}
 use Rattle.input_files.specs.Limits.{file_at}
-use Rattle.input_files.specs.Files.{AreOf}
-use Rattle.plan_answers.specs.Tasks.{AreTask, IsReady, StopsTask, refused, past, OnceRead, not_read, read, OnceGrounded, not_grounded, grounded}
+use Rattle.plan_answers.specs.Tasks.{IsReady, OnceRead, not_read, read, OnceGrounded, not_grounded, grounded}
 use Rattle.plan_answers.specs.Answers.{AnswersProve, not_run, run, AnswersProof, not_checked, checked, AnswersVerify, unfit, beyond, spelled, ending_of_run, ending_of_check}
 use Rattle.plan_claims.specs.Laws.{Laws}
-use Rattle.plan_top.specs.Causes.{HasRead, ComesFor, Comes}
+use Rattle.plan_top.specs.Causes.{HasRead, Comes}
 use Rattle.plan_top.specs.OneReport.{AskToVerify}
-use Rattle.plan_top.proofs.Told.{task_refusal, asked_comes}
+use Rattle.plan_top.proofs.Told.{asked_comes}
+use Rattle.plan_top.proofs.Reports.{is_stop}
+use Rattle.plan_top.proofs.Reported.{task_stops}
 use Rattle.plan_top.proofs.OneTask.{no_refusal, one_task, no_limit}
-use Rattle.plan_top.proofs.OneReport.{LongFrom, IsCause, not_long, cause_of, one_judgement, one_form, not_small}
+use Rattle.plan_top.proofs.OneReport.{IsCause, long_stops, not_long, cause_of, one_judgement, one_form, not_small}
 
 -- what was written as a certificate, of a formula that is not too large, and no more bytes than it may have
 pub record IsWritten (g : Grounded) (horizon : ℕ) (text : List ℕ) : Type 0 where
@@ -81,15 +80,9 @@ written_as task g horizon budget text (run p so e) = step p so e
     step (proved.Plan conflicts) so e = absurd (let never : Listing text ≡ FoundPlan horizon conflicts = e in cc)
     step (proved.Open conflicts) so e = absurd (let never : Listing text ≡ Open horizon conflicts = e in cc)
 
--- a listing tells of no file that is too long, and of no task that is none
-no_long : {A : Type 0} (file : ℕ → File) (place : ℕ) (files : List (List ℕ)) (text : List ℕ) → LongFrom file place files (Listing text) → A
-no_long file place [] text h = absurd h
-no_long file place (f ∷ fs) text (inl long) = absurd (let never : Listing text ≡ TooLong (file place) = long.0 in cc)
-no_long file place (f ∷ fs) text (inr more) = no_long file (place + 1) fs text more.1
-
-no_stop : {A : Type 0} (domain problem text : List ℕ) → StopsTask domain problem (Listing text) → A
-no_stop domain problem text (refused r) = let is = task_refusal domain problem (Listing text) r in absurd (let never : Listing text ≡ Refused is.0 is.1 is.2 = is.3 in cc)
-no_stop domain problem text (past task are over) = absurd (let never : Listing text ≡ TooMany over.0 over.1 = over.2 in cc)
+-- a listing stops no run
+on_listing : {A : Type 0} (text : List ℕ) → is_stop (Listing text) ≡ true → A
+on_listing text stop = absurd (let never : false ≡ true = stop in cc)
 
 module _ (laws : Laws) where
   -- the checker accepts it
@@ -116,13 +109,13 @@ module _ (laws : Laws) where
   -- two files that were answered with a certificate, and the same two with it
   both_so : (first second text : List ℕ) (horizon budget : ℕ) (end : Ending) → OnceGrounded first second (AnswersProve horizon budget) (Listing text)
       → OnceRead first second (λ task. AnswersVerify task text) end → status_of end ≡ 0
-  both_so first second text horizon budget end (not_grounded s) v = no_stop first second text s
+  both_so first second text horizon budget end (not_grounded s) v = on_listing text (task_stops first second (Listing text) s)
   both_so first second text horizon budget end (grounded task g are ready h) (not_read r) = absurd (no_refusal first second end task r are)
   both_so first second text horizon budget end (grounded task g are ready h) (read other too v) =
       verified_so task g horizon text ready (written_as task g horizon budget text h) end (subst (λ (t : Parts). AnswersVerify t text end) (one_task first second other task too are) v)
 
   its_length : (first second text : List ℕ) (horizon budget : ℕ) → OnceGrounded first second (AnswersProve horizon budget) (Listing text) → length text ≤ most_bytes
-  its_length first second text horizon budget (not_grounded s) = no_stop first second text s
+  its_length first second text horizon budget (not_grounded s) = on_listing text (task_stops first second (Listing text) s)
   its_length first second text horizon budget (grounded task g are ready h) = (written_as task g horizon budget text h).short
 
   pub passes : (took elsewhere : List Heard) (old new before after words others : List (List ℕ)) (text : List ℕ) (end : Ending) → AskToVerify took elsewhere words others text → Comes took old new words end
@@ -135,7 +128,7 @@ module _ (laws : Laws) where
       (asked_comes took old new words (verifies ask.domain ask.problem ask.proof) tt ask.asked end p))
     where
       step : IsCause (proves ask.other_domain ask.other_problem ask.horizon ask.budget) (ask.first ∷ ask.second ∷ []) (Listing text) → IsCause (verifies ask.domain ask.problem ask.proof) (ask.first ∷ ask.second ∷ text ∷ []) end → status_of end ≡ 0
-      step (inl long) v = no_long (file_at (proves ask.other_domain ask.other_problem ask.horizon ask.budget)) 0 (ask.first ∷ ask.second ∷ []) text long
+      step (inl long) v = on_listing text (long_stops (file_at (proves ask.other_domain ask.other_problem ask.horizon ask.budget)) 0 (ask.first ∷ ask.second ∷ []) (Listing text) long)
       step (inr (short, h)) (inl long) =
           absurd (not_long (file_at (verifies ask.domain ask.problem ask.proof)) 0 (ask.first ∷ ask.second ∷ text ∷ []) end long (short.0, (short.1.0, (its_length ask.first ask.second text ask.horizon ask.budget h, tt))))
       step (inr (short, h)) (inr (all, v)) = both_so ask.first ask.second text ask.horizon ask.budget end h v

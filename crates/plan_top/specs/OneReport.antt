@@ -1,5 +1,5 @@
 -- One ending for the same files: for every number of workers and every slice, in whatever turns, and whatever the files' names.
-use Rattle.std.specs.Prelude.{◌≡◌, ℕ, List, [], ◌∷◌, length, Some, slice_get}
+use Rattle.std.specs.Prelude.{◌≡◌, ◌≤◌, ℕ, List, [], ◌∷◌, length, Some, slice_get}
 use Rattle.pl_io.specs.Outside.{Heard}
 use Rattle.input_files.specs.Files.{AreOf}
 use Rattle.plan_gen.specs.declared.Kind.{Kind}
@@ -79,6 +79,23 @@ pub record AskToVerify (took elsewhere : List Heard) (words others : List (List 
   pub asked : requested words ≡ Some (verifies domain problem proof)
   pub others_asked : requested others ≡ Some (proves other_domain other_problem horizon budget)
   pub heard : AreOf (first ∷ second ∷ text ∷ []) took
+  pub other_heard : AreOf (first ∷ second ∷ []) elsewhere
+
+-- Words ask for a certificate of a horizon with a budget of so many conflicts or more, and others for `plan`: what was handed over for both is
+-- of one domain and one problem.
+pub record AskToProve (took elsewhere : List Heard) (words others : List (List ℕ)) (horizon conflicts : ℕ) : Type 0 where
+  pub domain : List ℕ
+  pub problem : List ℕ
+  pub budget : ℕ
+  pub other_domain : List ℕ
+  pub other_problem : List ℕ
+  pub numbers : Numbers
+  pub first : List ℕ
+  pub second : List ℕ
+  pub asked : requested words ≡ Some (proves domain problem horizon budget)
+  pub others_asked : requested others ≡ Some (plans other_domain other_problem numbers)
+  pub enough : conflicts ≤ budget
+  pub heard : AreOf (first ∷ second ∷ []) took
   pub other_heard : AreOf (first ∷ second ∷ []) elsewhere
 
 -- Runs on the same files by such words have one ending, but for a file that could not be read.

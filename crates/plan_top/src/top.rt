@@ -13,10 +13,12 @@ ghost use Rattle.plan_top.specs.Causes.{Comes, IsBatchOf, ArePartsSo, HasRead, A
 ghost use Rattle.plan_top.specs.Complete.{GoesWell, IsGood};
 ghost use Rattle.plan_endings.specs.Ending.{status_of, text_of, greatest, parts_text, IsSmall};
 ghost use Rattle.plan_claims.specs.Headline.{Printed, OfFiles, OfThreeFiles, OfPlans, PlanRuns, EveryOrderRuns, HasAtLeast, HasPlanOf, TellsExhausted, NoStepPlan, NoPlan, LineIsSo, SpendsAll, Certifies, CertifiesNothing, ProvesNone, TellsGround, TellsOrder, AreCallsOfPlan, AreCallsOfNoPlan};
-ghost use Rattle.plan_top.specs.OneReport.{AskForOne, AskForOnePart, AskToVerify};
+ghost use Rattle.plan_top.specs.OneReport.{AskForOne, AskForOnePart, AskToVerify, AskToProve};
 ghost use Rattle.input_files.specs.Ends.{ending_in};
 ghost use Rattle.plan_endings.specs.declared.ending.Ending.{Ending};
-ghost use Rattle.plan_endings.specs.declared.ending.Ending.TheVariants.{Listing};
+ghost use Rattle.plan_endings.specs.declared.ending.Ending.TheVariants.{Listing, Report, TooLong};
+ghost use Rattle.plan_endings.specs.declared.ending.File.TheVariants.{Proof};
+ghost use Rattle.plan_endings.specs.declared.ending.Outcome.{Outcome};
 
 use crate::decide::decide;
 use crate::{Ending, Status};
@@ -155,6 +157,17 @@ pub fn run<H: Threads + Wait + Sync, S: Shelf, K: Sink, G: Gate, D: Driver>(
     ensures passes { (took : List Heard) → S.heard shelf.new ≡ S.heard shelf.old ++ took → (elsewhere : List Heard) (others before after : List (List ℕ)) (text : List ℕ)
         → AskToVerify took elsewhere (map string_bytes words.now) others text → Comes elsewhere before after others (Listing text)
         → result.0 ≢ 5 → result.0 ≢ 6 → result.0 ≢ 8 → result.0 ≡ 0 }
+
+    // Where `plan` tells for the same domain and problem that the horizon is refuted after so many conflicts, `prove` with a budget of
+    // as many or more writes the certificate, or tells that it is too long.
+    ensures proves_refuted { (took : List Heard) → S.heard shelf.new ≡ S.heard shelf.old ++ took → (elsewhere : List Heard) (others before after : List (List ℕ)) (outcome : Outcome) (text : List ℕ) (horizon conflicts : ℕ)
+        → AskToProve took elsewhere (map string_bytes words.now) others horizon conflicts → Comes elsewhere before after others (Report outcome text) → Says text horizon (codes "refuted") conflicts
+        → result.0 ≢ 5 → result.0 ≢ 6 → result.0 ≢ 8 → (result.0 ≡ 0) ⊎ ((result.0 ≡ 4) × (K.taken sink.new ≡ appended (K.taken sink.old) (text_of (TooLong Proof)))) }
+
+    // Where it tells that the horizon has a plan, found after so many conflicts, `prove` tells so.
+    ensures proves_found { (took : List Heard) → S.heard shelf.new ≡ S.heard shelf.old ++ took → (elsewhere : List Heard) (others before after : List (List ℕ)) (outcome : Outcome) (text : List ℕ) (horizon conflicts : ℕ)
+        → AskToProve took elsewhere (map string_bytes words.now) others horizon conflicts → Comes elsewhere before after others (Report outcome text) → Says text horizon (codes "plan") conflicts
+        → result.0 ≢ 5 → result.0 ≢ 6 → result.0 ≢ 8 → result.0 ≡ 1 }
 
     // Each part of a batch is what `plan` has due on the domain and that problem, by the same numbers; the text is the parts' texts under
     // their lines, the status the greatest.

@@ -1,11 +1,14 @@
 // Runs of the planner in memory.
+use containers::let_go;
+use counting_driver::Counting;
 use pl_io::{Bytes, Files, MemShelf, MemSink, NamedFile, Numbers};
 use plan_top::run;
-use poll_run::NoDriver;
 use solver_pool::Gate;
-use std::alloc::Global;
+use std::alloc::{AllocGlobal, Global};
 use std::process::Abort;
+use std::random::RandomSource;
 use std::sync::Wait;
+use std::sync::atomic::AtomicU64;
 use std::thread::Threads;
 use test_gates::{CountGate, Notes, PairGate};
 
@@ -64,6 +67,17 @@ pub(crate) fn is_same(text: &[u8], wanted: &str) -> bool {
     text == wanted.as_bytes()
 }
 
+/// The line above the text of the first problem of a batch.
+const FIRST: &[u8] = b"; problem 1\n";
+
+/// Whether what a batch of one problem printed is what `plan` prints of it, under its line.
+pub(crate) fn is_first(text: &[u8], wanted: &str) -> bool {
+    match text.strip_prefix(FIRST) {
+        Some(part) => is_same(part, wanted),
+        None => false,
+    }
+}
+
 /// All that is noted of the turns of a run. One type for all runs, so that the planner is compiled once.
 pub(crate) struct TurnNotes {
     pub(crate) count: CountGate,
@@ -74,11 +88,7 @@ pub(crate) struct TurnNotes {
 /// Letting one go is one call, in which its parts go: whoever holds one proves one step.
 impl Drop for TurnNotes {
     fn drop(self) {
-        let TurnNotes {
-            count: _,
-            notes: _,
-            pair: _,
-        } = self;
+        let_go!(self: TurnNotes { count, notes, pair });
     }
 }
 
@@ -112,8 +122,22 @@ impl Gate for TurnNotes {
     }
 }
 
-/// The status with which a run on a shelf, into a sink and at a gate, ends. A driver that fails drives a batch.
-pub(crate) fn status_of<H: Threads + Wait + Sync + Abort>(
+/// The status with which a run on a shelf, into a sink, at a gate and with a driver ends.
+pub(crate) fn driven<H: Threads + Wait + Sync + RandomSource + AllocGlobal + Abort>(
+    rt: &H,
+    alloc: Global,
+    words: &str,
+    shelf: &mut MemShelf,
+    sink: &mut MemSink,
+    gate: &TurnNotes,
+    driver: &mut Counting<'_, H>,
+) -> u8 {
+    let words = split(rt, alloc, words);
+    run(rt, alloc, &words, shelf, sink, gate, driver).0
+}
+
+/// The same with a driver that fails.
+pub(crate) fn status_of<H: Threads + Wait + Sync + RandomSource + AllocGlobal + Abort>(
     rt: &H,
     alloc: Global,
     words: &str,
@@ -121,7 +145,7 @@ pub(crate) fn status_of<H: Threads + Wait + Sync + Abort>(
     sink: &mut MemSink,
     gate: &TurnNotes,
 ) -> u8 {
-    let words = split(rt, alloc, words);
-    let status = run(rt, alloc, &words, shelf, sink, gate, &mut NoDriver::new());
-    status.0
+    let polls = AtomicU64::new(0);
+    let mut driver = Counting::failing(rt, &polls);
+    driven(rt, alloc, words, shelf, sink, gate, &mut driver)
 }

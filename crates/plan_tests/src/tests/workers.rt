@@ -1,13 +1,14 @@
 // Runs with several workers.
 use super::runs::{Named, TurnNotes, ample_sink, holds, is_same, shelf_of, status_of};
 use super::tasks::{BLOCKS, DARK, LAMP, LAMP_PLAN, TOWER, TOWER_PLAN};
-use std::alloc::Global;
+use std::alloc::{AllocGlobal, Global};
 use std::process::Abort;
+use std::random::RandomSource;
 use std::sync::Wait;
 use std::thread::Threads;
 
 // A run on these files at a gate, which ends with status 0 and this report.
-fn run_at<H: Threads + Wait + Sync + Abort>(
+fn run_at<H: Threads + Wait + Sync + RandomSource + AllocGlobal + Abort>(
     rt: &H,
     alloc: Global,
     words: &str,
@@ -24,7 +25,12 @@ fn run_at<H: Threads + Wait + Sync + Abort>(
 const IN_THE_DARK: [Named<'static>; 2] = [("d", LAMP), ("p", DARK)];
 
 // Whether two horizons of a run are at work at once.
-fn meets<H: Threads + Wait + Sync + Abort>(rt: &H, alloc: Global, words: &str, wanted: bool) {
+fn meets<H: Threads + Wait + Sync + RandomSource + AllocGlobal + Abort>(
+    rt: &H,
+    alloc: Global,
+    words: &str,
+    wanted: bool,
+) {
     let gate = TurnNotes::of_pair(0, 1);
     run_at(rt, alloc, words, &IN_THE_DARK, &gate, LAMP_PLAN);
     holds(rt, gate.pair.met() == wanted, words);
@@ -47,7 +53,12 @@ fn one_worker_takes_one_after_another(rt: HostRuntime) {
 }
 
 // How many turns a run on the tower takes.
-fn turns<H: Threads + Wait + Sync + Abort>(rt: &H, alloc: Global, words: &str, wanted: u64) {
+fn turns<H: Threads + Wait + Sync + RandomSource + AllocGlobal + Abort>(
+    rt: &H,
+    alloc: Global,
+    words: &str,
+    wanted: u64,
+) {
     let gate = TurnNotes::new();
     run_at(
         rt,

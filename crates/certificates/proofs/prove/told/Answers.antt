@@ -22,6 +22,7 @@ returns-in-Refuted c =
       certified = λ text e. certifies run text h (c.standing.ensures.moved c.requires.sane) (c.standing.ensures.reached run.granted) refuted c.log.result.now log (c.certificate.ensures.spelled text e);
       spent = λ conflicts e. no_other (Open conflicts) (λ text k. cc) (λ k. cc) h c.log.result.now c.certificate.result e c.certificate.ensures.proved;
       found = λ conflicts e. no_other (Plan conflicts) (λ text k. cc) (λ k. cc) h c.log.result.now c.certificate.result e c.certificate.ensures.proved;
+      stays = c.standing.ensures.settled;
     }
 
 pub returns-in-Found : goal.returns-in-Found
@@ -34,6 +35,7 @@ returns-in-Found c =
       certified = λ text e. cc;
       spent = λ conflicts e. cc;
       found = λ conflicts e. (truths_of run.formula run.state, found_model run (c.standing.ensures.moved c.requires.sane) (c.standing.ensures.reached run.granted) found);
+      stays = c.standing.ensures.settled;
     }
 
 pub returns-in-Going : goal.returns-in-Going
@@ -48,4 +50,5 @@ returns-in-Going c =
       certified = λ text e. cc;
       spent = λ conflicts e. cc;
       found = λ conflicts e. cc;
+      stays = c.standing.ensures.settled;
     }

@@ -1,5 +1,5 @@
 use Rattle.std.proofs.Common.{ap, refl, arith}
-use Rattle.plan_top.proofs.Promises.{plan_runs, refuted_steps, refuted_plans, least, unfinished, lines, ground_told, order_told, reached, read_fault, usage, not_taken, no_command, same_report, complete, certified, verified, accepted, rejected, batch, parts_are_so, as_alone, not_reached, exhausted, found_steps, every_order_runs, proved_plan, passes}
+use Rattle.plan_top.proofs.Promises.{plan_runs, refuted_steps, refuted_plans, least, unfinished, lines, ground_told, order_told, reached, read_fault, usage, not_taken, no_command, same_report, complete, certified, verified, accepted, rejected, batch, parts_are_so, as_alone, not_reached, exhausted, found_steps, every_order_runs, proved_plan, passes, proves_refuted, proves_found}
 use Rattle.plan_top.proofs.top.run.Goals as goal
 
 pub returns-clause-plan_runs : goal.returns-clause-plan_runs
@@ -88,3 +88,9 @@ returns-clause-proved_plan g c = let h = c.answered.ensures.agrees in proved_pla
 
 pub returns-clause-passes : goal.returns-clause-passes
 returns-clause-passes g c took handed = passes _ _ took handed _ _ _ _ _ _ c.laws.ensures (c.answered.ensures.due took handed)
+
+pub returns-clause-proves_refuted : goal.returns-clause-proves_refuted
+returns-clause-proves_refuted g c took handed = proves_refuted _ _ took handed _ _ _ _ _ _ c.laws.ensures (c.answered.ensures.due took handed)
+
+pub returns-clause-proves_found : goal.returns-clause-proves_found
+returns-clause-proves_found g c took handed = proves_found _ _ took handed _ _ _ _ _ _ c.laws.ensures (c.answered.ensures.due took handed)
