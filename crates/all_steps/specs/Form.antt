@@ -2,7 +2,7 @@
 use Rattle.gt_core.specs.AllStep.{IsAllStepPlan}
 use Rattle.step_laws.specs.Stepping.{IsStepping}
 use Rattle.step_chains.specs.BothWays.{all_places}
-use Rattle.all_steps.proofs.Writing.{all_steps}
+use Rattle.all_laws.proofs.Writing.{all_steps}
 
 pub by_both_ways : IsStepping all_places IsAllStepPlan
 by_both_ways = all_steps

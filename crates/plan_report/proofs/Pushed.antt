@@ -9,7 +9,7 @@ use Rattle.race_end.specs.declared.line.Line.{Line}
 use Rattle.race_end.specs.declared.end.RaceEnd.{RaceEnd}
 use Rattle.race_end.specs.declared.end.RaceEnd.TheVariants as races
 use Rattle.race_end.specs.Ends.{LineView, line_view, end_view, lines_of, lines_in, conflicts_in}
-use Rattle.step_plans.proofs.Linear.{rest_at}
+use Rattle.step_plans.proofs.ByPlace.{rest_at}
 use Rattle.plan_report.specs.Report.{entry_of, action_text, step_line, step_lines, calls_by_step, conflicts_line, end_line, plan_lines, last_lines, report_of}
 use Rattle.plan_report.proofs.Lines.{joined-append}
 

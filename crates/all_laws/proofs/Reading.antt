@@ -17,9 +17,9 @@ use Rattle.step_laws.proofs.OrderLaw.{within}
 use Rattle.step_laws.proofs.PlanLaw.{IsOrderedBy, plan_of}
 use Rattle.step_laws.proofs.FormLaw.{plans_at}
 use Rattle.step_laws.proofs.SetAt.{set_of}
-use Rattle.all_steps.specs.Plan.{all_places, IsAllPlanOf}
-use Rattle.all_steps.proofs.Backward.{pairwise_front, any_two}
-use Rattle.all_steps.proofs.Ways.{place_there, place_back, all_in_range}
+use Rattle.all_laws.specs.Plan.{all_places, IsAllPlanOf}
+use Rattle.all_laws.proofs.Backward.{pairwise_front, any_two}
+use Rattle.all_laws.proofs.Ways.{place_there, place_back, all_in_range}
 
 -- What a satisfying assignment stands for is a plan of all-steps.
 

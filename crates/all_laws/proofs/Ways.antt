@@ -10,8 +10,8 @@ use Rattle.step_laws.specs.Form.{OrderedTask, IsOrderedTask}
 use Rattle.step_laws.proofs.Ranges.{in_range_at}
 use Rattle.step_laws.proofs.FormLaw.{listed_below}
 use Rattle.step_chains.specs.BothWays.{ways}
-use Rattle.all_steps.specs.Plan.{all_places}
-use Rattle.all_steps.proofs.Backward.{among_back, pairwise_back}
+use Rattle.all_laws.specs.Plan.{all_places}
+use Rattle.all_laws.proofs.Backward.{among_back, pairwise_back}
 
 -- The places of chains that go both ways.
 

@@ -1,7 +1,7 @@
 //! What the formula of all-steps says, as a contract.
 
 ghost use Rattle.step_laws.specs.Laws.{SatisfyingStandsForPlan, PlanHasSatisfying, UnsatisfiableHasNoPlan, SequenceHasPlan};
-ghost use Rattle.all_steps.specs.Plan.{all_places, IsAllPlanOf};
+ghost use Rattle.all_laws.specs.Plan.{all_places, IsAllPlanOf};
 
 /// The laws of the formulas of all-steps. It does nothing.
 pub fn laws()

@@ -1,6 +1,6 @@
-use Rattle.all_steps.proofs.Reading.{all_plans}
-use Rattle.all_steps.proofs.Writing.{all_satisfied, all_refutes, sequence_is_all_plan}
-use Rattle.all_steps.proofs.laws.laws.Goals as goal
+use Rattle.all_laws.proofs.Reading.{all_plans}
+use Rattle.all_laws.proofs.Writing.{all_satisfied, all_refutes, sequence_is_all_plan}
+use Rattle.all_laws.proofs.laws.laws.Goals as goal
 
 pub returns-clause-satisfying_is_plan : goal.returns-clause-satisfying_is_plan
 returns-clause-satisfying_is_plan c = all_plans

@@ -13,9 +13,9 @@ use Rattle.step_laws.specs.Stepping.{IsStepping}
 use Rattle.step_laws.proofs.FormLaw.{satisfied_at}
 use Rattle.step_laws.proofs.SequenceLaw.{one_by_one, one_member, sequence_is_plan}
 use Rattle.step_chains.specs.BothWays as places
-use Rattle.all_steps.specs.Plan.{all_places, IsAllPlanOf}
-use Rattle.all_steps.proofs.Ways.{each_place, all_in_range, distinct_there, distinct_back}
-use Rattle.all_steps.proofs.Reading.{all_plans}
+use Rattle.all_laws.specs.Plan.{all_places, IsAllPlanOf}
+use Rattle.all_laws.proofs.Ways.{each_place, all_in_range, distinct_there, distinct_back}
+use Rattle.all_laws.proofs.Reading.{all_plans}
 
 -- A plan of all-steps satisfies the formula, and a sequence is such a plan.
 
