@@ -8,7 +8,7 @@ TABLE = BODIES / "verdicts.tsv"
 COLUMNS = "crate\tbody\tprover\tgoal\tseconds\tseen by\twhy\n"
 ABSENT = "not in the program"
 UNSEEN = ("-", "nothing", "not called", ABSENT)
-VERDICTS = ("countermodel", "negation proved", "seen", "unproved", "proved")
+VERDICTS = ("countermodel", "negation proved", "seen", "unproved", "proved", "equal")
 
 def pairs(text):
     """The file and the old and new texts of an edit."""
@@ -117,12 +117,15 @@ class Row(NamedTuple):
     why: str = ""
 
     def verdict(self):
-        """One of VERDICTS, of which the last two are no evidence. A body that no clause can refuse counts as proved."""
+        """One of VERDICTS, of which the last three are no evidence. A body that no clause can refuse counts as proved; one of which its file
+        says that it does the same is equal."""
         if self.prover in VERDICTS[:2]:
             return self.prover
         if self.seen not in UNSEEN:
             return "seen"
-        return "proved" if self.prover == "proved" or self.why.startswith("stays: ") else "unproved"
+        if self.prover == "proved" or self.why.startswith("stays: "):
+            return "proved"
+        return "equal" if self.why.startswith("equal: ") else "unproved"
 
 def names(bodies):
     """The bodies that words name, by crate: those of a crate, CRATE/BODY, or all."""
@@ -152,4 +155,4 @@ def sums(table):
     rest = [row for row in table.values() if row.verdict() == "unproved"]
     run, told = sum(row.seen == "nothing" for row in rest), sum(row.why != "" for row in rest)
     counts = ", ".join(f"{words.count(it)} {it}" for it in VERDICTS)
-    return f"{len(words)} bodies: {counts}; of the unproved {run} were run and seen by nothing, and of {told} a reader says why."
+    return f"{len(words)} bodies: {counts}; of the {len(rest)} unproved {run} were run and seen by nothing, and of {told} a reader says why."

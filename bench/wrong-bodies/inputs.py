@@ -1,27 +1,55 @@
-"""The inputs on which wrong bodies are run, each with what is due of it: the rows of bench/check, cases, and random inputs of which
-an ordinary program tells what is due."""
+"""The inputs on which wrong bodies are run, each with what is due of it: the rows of bench/check, cases, random inputs of which an
+ordinary program tells what is due, inputs that are written for single bodies (aimed.py), and runs in which an allocation fails."""
 import importlib.machinery, importlib.util, os, pathlib, random, select, subprocess, sys, tempfile
 from typing import NamedTuple
 
+import aimed
+from combined import all_tests
+
 CHECK = pathlib.Path(__file__).resolve().parent.parent / "check"
-GROUPS = {"plan_prog": "reader words order check ground plan prove verify batch plan-all".split(), "judge_prog": ["formula"]}
+PLANNER, JUDGE, TEST, LAYERS = "planner", "judge", "test", ""
+GROUPS = "reader words order check ground plan prove verify batch plan-all formula".split()
 MOST_RUNS = 24
 LOOKS = 5
+FORMULA = "compare formula"
+# Runs in each of which some allocation fails: the words, and tasks of the corpus whose files they name.
+WANTING = [
+    (PLANNER, "plan d p --max-horizon 5 --width 3 --workers 1", "gripper/p05"), (PLANNER, "plan d p --max-horizon 5 --width 3 --workers 3", "gripper/p05"),
+    (PLANNER, "plan d p --max-horizon 9 --width 2 --workers 1", "pegsol/p03"), (PLANNER, "batch d p q --max-horizon 5 --width 3", "gripper/p05 gripper/p04"),
+    (PLANNER, "batch d p q --max-horizon 7", "openstacks/p04 openstacks/p04"), (PLANNER, "prove d p 5", "gripper/p05"),
+    (PLANNER, "prove d p 9", "pegsol/p03"), (PLANNER, "plan-all d p --max-horizon 4", "gripper/p04"), (PLANNER, "gen corridor 4", "gripper/p04"),
+    (PLANNER, "order d p", "briefcaseworld/p01"), (PLANNER, "ground d p", "briefcaseworld/p01"), (PLANNER, "check d p l", "gripper/p04"),
+    (PLANNER, "verify d p c", "gripper/p05"), (JUDGE, "formula d p 3", "gripper/p04"), (JUDGE, "formula d p 2 --steps all", "gripper/p04"),
+]
+MOST_REFUSED = 1 << 24
 
 class Input(NamedTuple):
-    """A run of a program: what shows it, the words, the folder, how many bytes it may write where that is bounded, and what is due
-    on its output and as its status."""
+    """A run of the program: what shows it, the words, the folder, what is due on its output and as its status, how many bytes it may
+    write where that is bounded, what comes through a pipe on its input, the number of an allocation that fails, and what is run. A
+    run without a folder has an empty one of its own."""
     shows: str
     words: tuple
-    folder: pathlib.Path
+    folder: pathlib.Path | None
     text: bytes
     status: int
     room: int | None = None
+    fed: bytes = b""
+    refused: int = 0
+    kind: str = PLANNER
 
     def command(self, program, seconds, memory):
         """The words of a run that is held to so many seconds of the processor and bytes of memory."""
         room = [f"--fsize={self.room}"] if self.room is not None and self.room >= 0 else []
-        return ["prlimit", f"--cpu={seconds}", f"--as={memory}", *room, str(program), *self.words]
+        return ["prlimit", f"--cpu={seconds}", f"--as={memory}", *room, str(program), *([self.kind] if self.kind else []), *self.words]
+
+    def input(self):
+        """What the run reads from: a pipe with what it is fed, or the device that is empty."""
+        if not self.fed:
+            return open("/dev/null", "rb")
+        out, into = os.pipe()
+        os.write(into, self.fed)
+        os.close(into)
+        return open(out, "rb")
 
     def out(self):
         """What the run writes into: a file, or a device that is full where the room is below 0."""
@@ -30,13 +58,18 @@ class Input(NamedTuple):
     def differs(self, program, number, seconds=60, memory=3 << 30, hits=None):
         """Whether a run with the body of a number comes to something else than what is due. A write past the room sends no signal, since
         Python leaves that one ignored."""
-        env = {"WRONG_BODY": str(number)} | ({"WRONG_HITS": str(hits)} if hits else {})
-        given = {"cwd": self.folder, "stdin": subprocess.DEVNULL, "stderr": subprocess.DEVNULL, "restore_signals": False, "env": env}
-        with self.out() as out, subprocess.Popen(self.command(program, seconds, memory), stdout=out, **given) as run:
-            if not ends(run):
-                return True
-            text = b"" if self.room == -1 else told(out)
-        return (without_comments(text) if self.shows == "compare formula" else text, run.returncode) != (self.text, self.status)
+        return self.ended(program, number, seconds, memory, hits) != (self.text, self.status)
+
+    def ended(self, program, number, seconds=60, memory=3 << 30, hits=None):
+        """What a run with the body of a number writes, and its status; nothing where it does not end."""
+        env = {"WRONG_BODY": str(number), "WRONG_ALLOCATION": str(self.refused)} | ({"WRONG_HITS": str(hits)} if hits else {})
+        with self.out() as out, self.input() as fed, tempfile.TemporaryDirectory() as own:
+            given = {"cwd": self.folder or own, "stdin": fed, "stderr": subprocess.DEVNULL, "restore_signals": False, "env": env}
+            with subprocess.Popen(self.command(program, seconds, memory), stdout=out, **given) as run:
+                if not ends(run):
+                    return None
+                text = b"" if self.room == -1 else told(out)
+        return (without_comments(text) if self.shows.startswith(FORMULA) else text), run.returncode
 
 def ends(run):
     """Whether a run ends; one whose threads all sleep at each of some looks is ended."""
@@ -77,8 +110,10 @@ def script(path):
 
 def rows(program, folder):
     """The runs of bench/check/rows, and of a row of very many some."""
-    made = script(CHECK / "rows")
-    made.make_files(program, folder)
+    made, planner = script(CHECK / "rows"), folder.parent / PLANNER
+    planner.write_text(f'#!/bin/sh\nexec {program} {PLANNER} "$@"\n')
+    planner.chmod(0o755)
+    made.make_files(planner, folder)
     for shows, runs in made.rows(folder):
         for run in runs[:: 1 + len(runs) // MOST_RUNS]:
             yield Input(f"row {shows}", tuple(run.words.split(" ")) if run.words else (), folder, run.text, run.status, run.room)
@@ -89,15 +124,20 @@ def rows_of_judge(folder):
     for name, text in made.FILES.items():
         (folder / name).write_text(text)
     for words, status, text in made.RUNS:
-        yield Input(f"row {words}", tuple(words.split()), folder, text.encode(), status)
+        yield Input(f"row {words}", tuple(words.split()), folder, text.encode(), status, kind=JUDGE)
     for listed, words in (made.PROOFS, "judge lamp dark 0"), (made.MODELS, "model lamp dark 1"):
         for at, (shows, given, status, text) in enumerate(listed):
             name = f"{words.split()[0]}{at}"
             (folder / name).write_bytes(given)
-            yield Input(f"row {shows}", (*words.split(), name), folder, text.encode(), status)
+            yield Input(f"row {shows}", (*words.split(), name), folder, text.encode(), status, kind=JUDGE)
     for name, shows, entries, _, _ in made.KEPT:
         words = "judge", "domain.pddl", "problem.pddl", "3", name
-        yield Input(f"row {shows}", words, CHECK / "proofs", f"; refuted horizon 3 entries {entries}\n".encode(), 0)
+        yield Input(f"row {shows}", words, CHECK / "proofs", f"; refuted horizon 3 entries {entries}\n".encode(), 0, kind=JUDGE)
+
+def tests():
+    """Each test, which is due to end well; one of them prints."""
+    for it in all_tests(CHECK.parent.parent / "crates"):
+        yield Input(f"test {'::'.join(it)}", ("/".join(it),), None, b"; written\n" if "standard_output" in it[-1] else b"", 0, kind=TEST)
 
 def cases(folder):
     """The cases of a folder, each a folder with the files words, stdout and status."""
@@ -124,15 +164,53 @@ def compared(shared, group, count, folder):
             words = ["verify", "d", "p", "c"]
         asked = ["dimacs", *words[1:4], *["all"] * ("all" in words)] if group == "formula" else words
         text, status = made.go([reference, *asked], here)
-        yield Input(f"compare {group}", tuple(words), here, without_comments(text) if group == "formula" else text, status)
+        due = without_comments(text) if group == "formula" else text
+        yield Input(f"compare {group}", tuple(words), here, due, status, kind=JUDGE if group == "formula" else PLANNER)
 
-def listed(name, program, shared, count, folder):
-    """All inputs of a program: rows, then cases, then random ones."""
-    here = folder / "rows"
-    here.mkdir()
-    found = [*(rows(program, here) if name == "plan_prog" else rows_of_judge(here))]
-    if shared and name == "plan_prog":
+def greatest_refused(run, program):
+    """The greatest number of an allocation without which a run tells of want of memory, from below."""
+    low, high = 0, 1
+    while high < MOST_REFUSED and run._replace(refused=high).ended(program, 0) == (b"", 8):
+        low, high = high, 2 * high
+    while low + 1 < high:
+        middle = (low + high) // 2
+        low, high = (middle, high) if run._replace(refused=middle).ended(program, 0) == (b"", 8) else (low, middle)
+    return low
+
+def wanting(program, shared, count, folder):
+    """Runs in which so many allocations fail, one in each: status 8 is due, and nothing written."""
+    made, luck = script(shared / "tools/compare"), random.Random(4)
+    tasks = {task: files for task, *files in made.corpus()}
+    for at, (kind, words, names) in enumerate(WANTING):
+        here = folder / f"wanting{at}"
+        here.mkdir()
+        names = names.split()
+        for file, text in zip("dpl", tasks[names[0]]):
+            (here / file).write_bytes(text)
+        (here / "q").write_bytes(tasks[names[-1]][1])
+        if words.startswith("verify"):
+            (here / "c").write_bytes(made.go([str(shared / "tools/reference"), "prove", "d", "p", "5"], here)[0])
+        run = Input(f"want of memory {words} on {' '.join(names)}", tuple(words.split()), here, b"", 8, kind=kind)
+        last = greatest_refused(run, program)
+        chosen = {luck.randrange(1, last + 1) for _ in range(count)} | set(range(max(1, last - count // 4), last + 1)) if last else set()
+        for number in sorted(chosen):
+            one = run._replace(shows=f"{run.shows}: allocation {number} fails", refused=number)
+            if not one.differs(program, 0):
+                yield one
+        if kind == PLANNER:
+            text, status = made.go([str(shared / "tools/reference"), *run.words], here)
+            yield run._replace(shows=f"{run.shows}: no allocation after {last}", refused=last + 1, text=text, status=status)
+
+def listed(program, shared, count, folder):
+    """All inputs: rows, tests, cases, random ones, those that are written for bodies, and those in which memory is wanting."""
+    for name in ("rows", "judge", "aimed"):
+        (folder / name).mkdir()
+    found = [*rows(program, folder / "rows"), *rows_of_judge(folder / "judge"), *tests(), *aimed.layers(Input, folder)]
+    if shared:
+        made = script(shared / "tools/compare")
         found += cases(shared / "cases")
-    for group in GROUPS[name] if shared else []:
-        found += compared(shared, group, count, folder)
+        for group in GROUPS:
+            found += compared(shared, group, count, folder)
+        found += aimed.aimed(Input, made, shared, folder / "aimed")
+        found += wanting(program, shared, count, folder)
     return found

@@ -2,12 +2,15 @@
 import json, pathlib, re, shutil, subprocess, tempfile
 
 from bodies import ABSENT, ROOT, edited, pairs, places
+from combined import MAINS, ROOT_CRATE, TESTS, WAITS, combine
 from variants import Module, Program, compiled, linked, same_numbers
 
-# Words with which each program waits for its first file.
-PROGRAMS = {"plan_prog": ["plan", "PIPE", "/dev/null", "--max-horizon", "0"], "judge_prog": ["formula", "PIPE", "/dev/null", "0"]}
 PARTS = 4
 REFUSED = re.compile(r"crates/(\w+)/(src/[\w/]+\.rt):(\d+):\d+: error")
+
+def in_program():
+    """The crates that the program holds."""
+    return set().union(*map(below, (ROOT_CRATE, *MAINS, *TESTS)))
 
 def below(program):
     """The crates that a program stands on, and itself."""
@@ -57,30 +60,35 @@ def checkout(room, edits):
             (room / "crates" / crate / file).write_text(text)
     subprocess.run(["git", "init", "-q", room], check=True)
 
-def built(program, edits):
-    """The module of a program with edits made."""
+def built(edits):
+    """The module of the program with edits made."""
     with tempfile.TemporaryDirectory() as folder:
         checkout(pathlib.Path(folder), edits)
-        text = compiled(pathlib.Path(folder), program, PROGRAMS[program])
+        combine(pathlib.Path(folder))
+        text = compiled(pathlib.Path(folder), ROOT_CRATE, WAITS)
     module = Module(text)
     shutil.rmtree(text.parent)
     return module
 
 def is_of(symbol, key, edit):
     """Whether a function of a module is one that a body changes, or stands in it; any of its crate where it changes more than functions."""
-    here = places(key[0], edit)
-    return any(re.match(rf'"?{key[0]}::(.*::)?{it.name}(::|\+|<|"|$)', symbol) for it in here) if here else is_in(symbol, key[0])
+    here, crate = places(key[0], edit), stands_as(key[0])
+    return any(re.match(rf'"?{crate}::(.*::)?{it.name}(::|\+|<|"|$)', symbol) for it in here) if here else is_in(symbol, crate)
+
+def stands_as(crate):
+    """The name under which a crate stands in the program."""
+    return f"{ROOT_CRATE}::{MAINS[crate]}" if crate in MAINS else crate
 
 class Making:
-    """The making of one program with all bodies of it."""
-    def __init__(self, program):
-        self.name, self.right = program, built(program, {})
+    """The making of the program with all bodies."""
+    def __init__(self):
+        self.right = built({})
         self.program, self.numbers, self.bad, self.left, self.batch = Program(self.right), {}, {}, {}, 0
 
     def take(self, edits):
         """Takes the bodies of a batch, without those that the compiler refuses."""
         try:
-            module = built(self.name, edits)
+            module = built(edits)
         except RuntimeError as error:
             refused = {key for key in edits if refuses(key, edits, str(error))} or set(edits)
             self.bad |= {key: str(error).strip().split("\n")[-2:][0] for key in refused}
@@ -130,13 +138,13 @@ def refuses(key, edits, said):
                     return True
     return False
 
-def make(name, bodies, folder):
+def make(bodies, folder):
     """Makes the program of some bodies in a folder."""
-    making = Making(name)
+    making = Making()
     making.left = bodies
     while making.left:
         these, making.left = making.left, {}
         for batch in batches(these):
             making.take(batch)
-            print(f"{name}: {len(making.numbers)} of {len(bodies)} bodies are in the program, {len(making.bad)} are not", flush=True)
+            print(f"{len(making.numbers)} of {len(bodies)} bodies are in the program, {len(making.bad)} are not", flush=True)
     making.written(folder)
