@@ -1,7 +1,7 @@
 -- What has to hold before effects is put together from preconditions and conditions.
-use Rattle.std.proofs.Common.{arith, ◌≡◌, ℕ, zero, suc, ◌+◌, ◌-◌, ◌<◌, ◌≤◌, List, [], ◌∷◌, ◌++◌, map, take, length, length-append, get_or, refl, sym, ap, ◌∙◌, subst}
+use Rattle.std.proofs.Common.{arith, ◌≡◌, ℕ, zero, suc, ◌+◌, ◌-◌, ◌<◌, ◌≤◌, List, [], ◌∷◌, ◌++◌, map, take, length, length-append, get_or, refl, sym, ap, ◌∙◌}
 use Rattle.std.specs.List.{filter, flat_map, AllByRecursion}
-use Rattle.std.proofs.lemmas.List.{append-nil, append_assoc, get_or-append-add, length-map, take_more}
+use Rattle.std.proofs.lemmas.List.{append-nil, get_or-append-add, length-map, take_more}
 use Rattle.std.proofs.lemmas.List as lists
 use Rattle.std.proofs.lemmas.Grind.{flat_map-append}
 use Rattle.gt_core.specs.Task.{Action, Effect}
