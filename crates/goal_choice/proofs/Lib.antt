@@ -6,3 +6,4 @@ pub mod Kept
 pub mod Told
 pub mod Found
 pub mod NeedsLaw
+pub mod Joined

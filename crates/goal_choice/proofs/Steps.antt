@@ -33,6 +33,11 @@ IsGathered facts support whole from rest before =
     × (before.members ≡ fold put [] ks)
     × (whole ≡ both (Wants ks) (supports support rest))
 
+-- literals that are put in one list after the other
+pub put_both : (before after : Literals) (xs ys : List ℕ) → after ≡ record before { members = fold put before.members xs } → (record after { members = fold put after.members ys }) ≡ record before { members = fold put before.members (xs ++ ys) }
+put_both before after xs ys e =
+    ap (λ (s : Literals). (let t : Literals = record s { members = fold put s.members ys } in t)) e ∙ ap (λ (ls : List ℕ). (let t : Literals = record before { members = ls } in t)) (sym (fold-append put before.members xs ys))
+
 pub gathered_more : (facts : ℕ) (support : ℕ → Support) (whole : Support) (from l : ℕ) (wanted rest ms : List ℕ) (before after : Literals) → IsGathered facts support whole from wanted before → after ≡ record before { members = fold put before.members ms } → l < 4096 → wanted ≡ l ∷ rest → Wants ms ≡ support l → IsGathered facts support whole (l + 1) rest after
 gathered_more facts support whole from l wanted rest ms before after g e small is w = (
   omega (arith, small),

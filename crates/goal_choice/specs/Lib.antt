@@ -7,4 +7,5 @@ pub mod ChoiceLaw
 pub mod Kept
 pub mod Told
 pub mod Needs
+pub mod Joined
 pub mod Search

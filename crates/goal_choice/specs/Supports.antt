@@ -1,5 +1,5 @@
 -- What the supports that the code finds say.
-use Rattle.std.specs.Prelude.{◌≡◌, ℕ, ◌/◌, ◌<◌, List, [], ◌∷◌, Option, Some, None, fold}
+use Rattle.std.specs.Prelude.{◌≡◌, ℕ, ◌/◌, ◌<◌, List, [], ◌∷◌, ◌++◌, Option, Some, None, fold}
 use Rattle.std.specs.List.{AllByRecursion}
 use Rattle.clause_base.specs.Clause.{put}
 use Rattle.goal_choice.specs.Walk.{Support as Meaning, Chooses, Wants}
@@ -9,13 +9,13 @@ use Rattle.goal_choice.specs.declared.support.Support.TheVariants.{Choose, Want,
 -- the support of a literal
 abbrev pub meaning : ℕ → Support → Meaning
 meaning l (Choose c) = Chooses c
-meaning l (Want ls) = Wants ls.now
+meaning l (Want ps cs) = Wants (ps.now ++ cs.now)
 meaning l Keep = Wants (l ∷ [])
 
 -- the literals that are wanted are of so many facts
 abbrev pub WantsWithin : ℕ → Support → Type 0
 WantsWithin facts (Choose c) = Unit {0}
-WantsWithin facts (Want ls) = AllByRecursion (λ l. l / 2 < facts) ls.now
+WantsWithin facts (Want ps cs) = AllByRecursion (λ l. l / 2 < facts) (ps.now ++ cs.now)
 WantsWithin facts Keep = Unit {0}
 
 -- what the wanted literals of a step ask for is a choice, or else that these literals, rising, are wanted before it

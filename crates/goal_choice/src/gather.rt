@@ -1,10 +1,12 @@
 //! The supporters of each fact literal are gathered from a task.
 
 ghost use Rattle.std.specs.Prelude.{◌≡◌, ℕ, ◌/◌, [], ◌∷◌, ◌++◌, true, false, length, map, slice_index_or, IfOk, OnOk};
-ghost use Rattle.std.specs.List.Sorted.{IsNonDecreasing};
+ghost use Rattle.std.specs.List.{filter};
 ghost use Rattle.goal_choice.specs.Search.{AreMarked};
-ghost use Rattle.goal_choice.specs.Needs.{needs_of, needs_in};
+ghost use Rattle.goal_choice.specs.Needs.{needs_of};
+ghost use Rattle.gt_core.specs.Lawful.{is_conditional};
 
+use crate::needs::Needs;
 use clause_base::literal::Lit;
 use clause_base::memory::Memory;
 use containers::FlatLists;
@@ -66,20 +68,25 @@ pub(crate) fn variables_by_literal(
     Ok((lists, rising))
 }
 
-/// How many literals the needs of an action and of its conditional effects have.
-fn literals_of(act: &Act) -> usize {
-    let mut all = act.pre().len();
-    for effect in act.effects() {
-        if effect.is_conditional() {
-            all = all
-                .saturating_add(act.pre().len())
-                .saturating_add(effect.cond().len());
-        }
+/// How many literals the preconditions of actions have.
+fn literals_before(acts: &[Act]) -> usize {
+    let mut all: usize = 0;
+    for act in acts {
+        all = all.saturating_add(act.pre().len());
     }
     all
 }
 
-/// How many literals the needs of actions and of their conditional effects have.
+/// How many literals the conditions of the effects of an action have.
+fn literals_of(act: &Act) -> usize {
+    let mut all: usize = 0;
+    for effect in act.effects() {
+        all = all.saturating_add(effect.cond().len());
+    }
+    all
+}
+
+/// How many literals the conditions of the effects of actions have.
 fn literals_in(acts: &[Act]) -> usize {
     let mut all: usize = 0;
     for act in acts {
@@ -88,24 +95,32 @@ fn literals_in(acts: &[Act]) -> usize {
     all
 }
 
-/// Adds what each action needs.
-fn add_preconditions(acts: &[Act], lists: &mut FlatLists<u32>) -> Result<(), Memory>
-    ensures { OnOk result (lists.new ≡ lists.old ++ map (λ a. a.precondition) acts.now) }
+/// The precondition of each action.
+fn preconditions_of(alloc: Global, acts: &[Act]) -> Result<FlatLists<u32>, Memory>
+    ensures { IfOk result (λ lists. lists ≡ map (λ a. a.precondition) acts.now) }
 {
+    let mut lists = FlatLists::with_room(alloc, acts.len(), literals_before(acts))?;
     for act in acts {
         lists.push(act.pre())?;
     }
-    Ok(())
+    Ok(lists)
 }
 
-/// Adds what each conditional effect of an action needs.
-fn add_conditions(act: &Act, lists: &mut FlatLists<u32>) -> Result<(), Memory>
-    ensures { OnOk result (lists.new ≡ lists.old ++ needs_in act.now) }
+/// Adds the conditions of the conditional effects of the action with a number, and for each this number.
+fn add_conditions(
+    act: &Act,
+    number: usize,
+    actions: &mut Vec<usize>,
+    conditions: &mut FlatLists<u32>,
+) -> Result<(), Memory>
+    ensures actions { OnOk result (actions.new.items ≡ actions.old.items ++ map (λ e. number) (filter is_conditional act.now.effects)) }
+    ensures conditions { OnOk result (conditions.new ≡ conditions.old ++ map (λ e. e.condition) (filter is_conditional act.now.effects)) }
 {
     let effects = act.effects();
     for effect in effects {
         if effect.is_conditional() {
-            lists.push_joined(act.pre(), effect.cond())?;
+            actions.push(number)?;
+            conditions.push(effect.cond())?;
         }
     }
     Ok(())
@@ -113,15 +128,20 @@ fn add_conditions(act: &Act, lists: &mut FlatLists<u32>) -> Result<(), Memory>
 
 /// For each variable of the first step that is not a chain variable, what has to hold before its effects: of an action its
 /// precondition, of a conditional effect that of its action and its condition.
-pub(crate) fn needs_by_variable(alloc: Global, task: &Task) -> Result<FlatLists<u32>, Memory>
-    ensures { IfOk result (λ lists. lists ≡ needs_of task.now) }
+pub(crate) fn needs_by_variable(alloc: Global, task: &Task) -> Result<Needs, Memory>
+    ensures { IfOk result (λ needs. needs ≡ needs_of task.now) }
 {
     let acts = task.acts();
-    let count = acts.len() + task.conditional() as usize;
-    let mut lists = FlatLists::with_room(alloc, count, literals_in(acts))?;
-    add_preconditions(acts, &mut lists)?;
-    for act in acts {
-        add_conditions(act, &mut lists)?;
+    let count = task.conditional() as usize;
+    let preconditions = preconditions_of(alloc, acts)?;
+    let mut actions = Vec::with_capacity(alloc, count)?;
+    let mut conditions = FlatLists::with_room(alloc, count, literals_in(acts))?;
+    for number in 0..acts.len() {
+        add_conditions(&acts[number], number, &mut actions, &mut conditions)?;
     }
-    Ok(lists)
+    Ok(Needs {
+        preconditions,
+        actions,
+        conditions,
+    })
 }

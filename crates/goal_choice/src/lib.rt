@@ -13,6 +13,7 @@ mod descent;
 mod flat_lists;
 mod gather;
 mod literals;
+mod needs;
 mod search;
 mod support;
 mod supporters;

@@ -15,8 +15,8 @@ use clause_base::values::Values;
 pub(crate) enum Support<'a> {
     /// A decision.
     Choose(Lit),
-    /// That these literals hold before the step.
-    Want(&'a [u32]),
+    /// That these literals hold before the step: those of a precondition and of a condition.
+    Want(&'a [u32], &'a [u32]),
     /// That it holds before the step.
     Keep,
 }
@@ -50,7 +50,7 @@ pub(crate) fn support_for<'a>(
 {
     let start = means.layout().step_start(step);
     if let Some(supporter) = means.least_with(lit, values, start, Some(true)) {
-        return Support::Want(supporter.needs);
+        return Support::Want(supporter.precondition, supporter.condition);
     }
     if !is_false_at(means, values, step, lit) {
         return Support::Keep;

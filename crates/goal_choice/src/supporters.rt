@@ -1,12 +1,13 @@
 //! What a choice is made from: the goal, and the supporters of each fact literal.
 
-ghost use Rattle.std.specs.Prelude.{◌≡◌, ◌/◌, ◌<◌, ◌≤◌, [], Some, None, length, slice_index_or, IfOk, IfSome, IfNone};
+ghost use Rattle.std.specs.Prelude.{◌≡◌, ◌/◌, ◌<◌, ◌≤◌, [], ◌++◌, Some, None, length, slice_index_or, IfOk, IfSome, IfNone};
 ghost use Rattle.std.specs.List.{AllByRecursion};
 ghost use Rattle.goal_choice.specs.Means.{gathered_of, variable_from};
 ghost use Rattle.goal_choice.specs.Walk.{least_with};
 
 use crate::flat_lists::list_at;
 use crate::gather::{needs_by_variable, variables_by_literal};
+use crate::needs::Needs;
 use crate::search::least_variable;
 use clause_base::memory::Memory;
 use clause_base::values::Values;
@@ -25,7 +26,7 @@ struct Blocks {
     goal: Vec<u32>,
     variables: FlatLists<u32>,
     rising: Vec<bool>,
-    needs: FlatLists<u32>,
+    needs: Needs,
 }
 
 /// Letting one go is one call, in which its parts go: whoever holds one proves one step.
@@ -35,11 +36,13 @@ impl Drop for Blocks {
     }
 }
 
-/// An effect as a supporter of its literal: its variable in the first step, and the literals that have to hold before it.
+/// An effect as a supporter of its literal: its variable in the first step, and the literals that have to hold before it, those of
+/// its action and its own.
 #[derive(Clone, Copy)]
 pub(crate) struct Supporter<'a> {
     pub(crate) variable: u32,
-    pub(crate) needs: &'a [u32],
+    pub(crate) precondition: &'a [u32],
+    pub(crate) condition: &'a [u32],
 }
 
 /// What choosers look at of a task: the literals of its goal, and the supporters of each fact literal, in blocks that are made
@@ -142,17 +145,21 @@ impl Supporters {
     ) -> Option<Supporter<'_>>
         requires lit { lit / 2 < self.now.layout.facts }
         requires within { AllByRecursion (λ s. variable_from start s < length values.now) (slice_index_or self.now.supporters lit []) }
-        ensures some { IfSome result (λ s. least_with values.now value start (slice_index_or self.now.supporters lit []) ≡ Some (record { variable = s.variable; needs = s.needs.now })) }
+        ensures some { IfSome result (λ s. least_with values.now value start (slice_index_or self.now.supporters lit []) ≡ Some (record { variable = s.variable; needs = s.precondition.now ++ s.condition.now })) }
         ensures none { IfNone result (least_with values.now value start (slice_index_or self.now.supporters lit []) ≡ None) }
     {
         let variables = list_at(&self.blocks.variables, lit as usize);
         let rising = self.blocks.rising[lit as usize];
         match least_variable(variables, rising, values, start, value) {
             None => None,
-            Some(variable) => Some(Supporter {
-                variable,
-                needs: list_at(&self.blocks.needs, variable as usize),
-            }),
+            Some(variable) => {
+                let (precondition, condition) = self.blocks.needs.of(variable as usize);
+                Some(Supporter {
+                    variable,
+                    precondition,
+                    condition,
+                })
+            }
         }
     }
 }

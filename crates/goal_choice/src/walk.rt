@@ -31,7 +31,10 @@ pub(crate) fn wanted_before(
         from = lit + 1;
         match support_for(means, values, step, lit) {
             Support::Choose(choice) => return Some(choice),
-            Support::Want(lits) => before.put_all(lits),
+            Support::Want(precondition, condition) => {
+                before.put_all(precondition);
+                before.put_all(condition);
+            }
             Support::Keep => before.put(lit),
         }
     }

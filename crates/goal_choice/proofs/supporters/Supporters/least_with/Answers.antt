@@ -18,8 +18,8 @@ least_variable-requires-clause-within c =
     of_variables (λ s. variable_from c.args.start s < length c.args.values.now) b.needs c.list_at-variables.result.now
     (subst (AllByRecursion (λ s. variable_from c.args.start s < length c.args.values.now)) whole c.requires.within)
 
-pub list_at-requires : goal.list_at-requires
-list_at-requires c =
+pub of-requires : goal.of-requires
+of-requires c =
     let b = arc_value c.self.inside.blocks in
     let z = c.self.inside.layout in
     let variables = c.list_at-variables.ensures ∙ ap (λ (b : Blocks). slice_index_or b.variables c.args.lit []) c.deref.ensures in
@@ -46,4 +46,4 @@ returns-in-Some-clause-some c =
     ap (least_with c.args.values.now c.args.value c.args.start) whole
     ∙ least_found b.needs c.args.values.now c.args.value c.args.start c.list_at-variables.result.now
     ∙ ap (found b.needs) (sym c.in-Some.ensures)
-    ∙ ap (λ (ns : List ℕ). Some (let s : Supporter = record { variable = v; needs = ns } in s)) (sym (c.list_at.ensures ∙ ap (λ (b : Blocks). slice_index_or b.needs v []) c.deref-in-Some.ensures))
+    ∙ ap (λ (ns : List ℕ). Some (let s : Supporter = record { variable = v; needs = ns } in s)) (sym (c.of.ensures ∙ ap (λ (b : Blocks). slice_index_or b.needs v []) c.deref-in-Some.ensures))
