@@ -8,19 +8,19 @@ ghost use Rattle.gt_core.specs.Lawful.{is_conditional};
 use crate::adders::add_of_fact;
 use gt_core::eff::Eff;
 
+/// Whether an effect, where it is an add, has no condition.
+fn is_sure(effect: &Eff, adds: bool) -> bool
+    ensures { result ≡ (adds && not (is_conditional effect.now)) }
+{
+    adds && !effect.is_conditional()
+}
+
 /// The effects that were passed with the literal `lit`, an add: how many there are, and whether one has no condition.
 #[derive(Clone, Copy)]
 pub(crate) struct Adds {
     pub(crate) lit: u32,
     pub(crate) count: u32,
     pub(crate) sure: bool,
-}
-
-/// Whether an effect, where it is an add, has no condition.
-fn is_sure(effect: &Eff, adds: bool) -> bool
-    ensures { result ≡ (adds && not (is_conditional effect.now)) }
-{
-    adds && !effect.is_conditional()
 }
 
 /// One where something is so, else none.

@@ -1,8 +1,8 @@
 //! The clauses of one step of a horizon's formula, and those of one time: every horizon's are these with their variables
 //! moved. Each clause group has a file of its own, and is what the definition in `horizon_formula` lists of it.
 //!
-//! How many literals the clauses of one step have, and those of the known pairs at one time, by arithmetic: no clause is
-//! built for it. `specs/Sizes.antt` has the numbers, and the laws of `proofs/` say that they are those of the clauses.
+//! How many literals these clauses have is worked out by arithmetic, before any is built (`step_size`, `known_size`):
+//! `specs/Sizes.antt` has the numbers, and the laws of `proofs/` say that they are those of the clauses.
 #![tactic(auto)]
 
 pub mod adders;

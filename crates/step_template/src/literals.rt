@@ -2,7 +2,11 @@
 
 ghost use Rattle.std.specs.Prelude.{◌≡◌, ◌/◌, ◌≤◌, ◌<◌, [], ◌++◌, if◌then◌else◌, OnOk};
 ghost use Rattle.std.specs.List.{cons_option};
+<<<<<<< HEAD
 ghost use Rattle.horizon_formula.specs.Layout.{action_at, conditional_at, fact_at, variables};
+=======
+ghost use Rattle.gt_core.specs.Layout.{action_at, fact_at, variables};
+>>>>>>> adb7c73fe6300eb05a18c872a4ace0fdfbead9b8
 ghost use Rattle.clause_base.specs.Clause.{clause_of};
 ghost use Rattle.horizon_formula.specs.Clause.{Is, Not, code};
 ghost use Rattle.horizon_formula.specs.Formula.{literal_over};
@@ -22,18 +26,6 @@ pub(crate) fn action_variable(layout: &Layout, a: u32) -> u32
     // For the proof: the layout is lawful, so what it numbers are variables of the formula.
     let _all = layout.variables();
     layout.action(0, a)
-}
-
-/// The variable of a conditional effect in the first step.
-pub(crate) fn conditional_variable(layout: &Layout, j: u32) -> u32
-    requires horizon { 0 < layout.now.horizon }
-    requires j { j < layout.now.conditional }
-    ensures value { result ≡ conditional_at layout.now 0 j }
-    ensures small { result ≤ 2147483647 }
-{
-    // For the proof: the layout is lawful, so what it numbers are variables of the formula.
-    let _all = layout.variables();
-    layout.conditional(0, j)
 }
 
 /// The literal that a fact has a value at a time.

@@ -5,7 +5,7 @@ ghost use Rattle.gt_core.specs.Lawful.{is_conditional};
 ghost use Rattle.horizon_formula.specs.Variables.{variable_at};
 ghost use Rattle.step_template.specs.Rows.{row_of, number_after};
 
-use crate::literals::{action_variable, conditional_variable};
+use crate::literals::action_variable;
 use gt_core::eff::Eff;
 use horizon_formula::layout::Layout;
 
@@ -36,8 +36,10 @@ pub(crate) fn effect_variable(layout: &Layout, place: Place, effect: &Eff) -> u3
     ensures value { result ≡ variable_at layout.now 0 (row_of place.action place.number effect.now) }
     ensures small { result ≤ 2147483647 }
 {
+    // For the proof: the layout is lawful, so what it numbers are variables of the formula.
+    let _all = layout.variables();
     if effect.is_conditional() {
-        conditional_variable(layout, place.number)
+        layout.conditional(0, place.number)
     } else {
         action_variable(layout, place.action)
     }

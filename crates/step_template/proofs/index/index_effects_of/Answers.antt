@@ -31,13 +31,12 @@ loop-effect-preserved c =
     let es = c.args.effects.now in
     let i = c.loop-effect.effect-index in
     let e = c.effect-item.result in
-    let lt = c.loop-effect-test.true in
     let number = c.loop-effect.number in
     let next = c.number_after-number.result in
     record {
-      fits = number_next number z.conditional next es i e e c.loop-effect.invariant.fits lt c.effect-item.is c.number_after-number.ensures;
+      fits = number_next number z.conditional next es i e e c.loop-effect.invariant.fits c.loop-effect-test.true c.effect-item.is c.number_after-number.ensures;
       long = c.index_effect.ensures.long ∙ c.loop-effect.invariant.long;
-      each = λ m. made_step z c.args.action m number next es i e e _ _ _ lt c.effect-item.is c.number_after-number.ensures (c.loop-effect.invariant.each m) (c.in_ok-index_effect.ensures.each m);
+      each = λ m. made_step z c.args.action m number next es i e e _ _ _ c.loop-effect-test.true c.effect-item.is c.number_after-number.ensures (c.loop-effect.invariant.each m) (c.in_ok-index_effect.ensures.each m);
     }
 
 pub returns-clause-each : goal.returns-clause-each
