@@ -2,11 +2,7 @@
 
 ghost use Rattle.std.specs.Prelude.{◌≡◌, ◌/◌, ◌≤◌, ◌<◌, [], ◌++◌, if◌then◌else◌, OnOk};
 ghost use Rattle.std.specs.List.{cons_option};
-<<<<<<< HEAD
-ghost use Rattle.horizon_formula.specs.Layout.{action_at, conditional_at, fact_at, variables};
-=======
-ghost use Rattle.gt_core.specs.Layout.{action_at, fact_at, variables};
->>>>>>> adb7c73fe6300eb05a18c872a4ace0fdfbead9b8
+ghost use Rattle.horizon_formula.specs.Layout.{action_at, fact_at, variables};
 ghost use Rattle.clause_base.specs.Clause.{clause_of};
 ghost use Rattle.horizon_formula.specs.Clause.{Is, Not, code};
 ghost use Rattle.horizon_formula.specs.Formula.{literal_over};
