@@ -8,7 +8,7 @@ use super::lamps::{Ground, form_of, grounded};
 use super::seen::holds;
 use clause_base::formula::Formula;
 use containers::memory::Memory;
-use gt_core::layout::Layout;
+use horizon_formula::layout::Layout;
 use poll_batch::BlockOn;
 use std::alloc::{AllocGlobal, Global};
 use std::process::Abort;
