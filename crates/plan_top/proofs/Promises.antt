@@ -12,7 +12,6 @@ use Rattle.pd_model.specs.declared.calls.Verdict.TheVariants as verdicts
 use Rattle.pd_model.specs.declared.parts.Parts.{Parts}
 use Rattle.plan_endings.specs.declared.ending.File.{File}
 use Rattle.plan_endings.specs.declared.ending.File.TheVariants.{Proof}
-use Rattle.pd_plan.specs.Fault as plan
 use Rattle.grounding_laws.specs.Grounded.{Grounded}
 use Rattle.race_end.specs.declared.end.RaceEnd.{RaceEnd}
 use Rattle.race_end.specs.Ends.{end_view, lines_in}

@@ -21,7 +21,7 @@ use Rattle.input_files.specs.Files.{StopsFrom}
 use Rattle.plan_answers.specs.Stepping.{places_by, is_plan_by}
 use Rattle.plan_answers.specs.Tasks.{AreTask, RefusesTask, IsReady, StopsTask, refused, past, OnceGrounded, not_grounded, grounded}
 use Rattle.plan_answers.specs.Raced.{ComesTo, too_large, ended, outcome_of}
-use Rattle.plan_answers.specs.Answers.{AnswersPlan, run, refusal_of_plan}
+use Rattle.plan_answers.specs.Answers.{AnswersPlan, refusal_of_plan}
 use Rattle.requests.specs.declared.request.Stepping.TheVariants.{All}
 use Rattle.plan_endings.specs.Ending.{status_of, status_of_race, text_of}
 use Rattle.plan_claims.specs.Headline.{PlanRuns, EveryOrderRuns, TellsExhausted, SpendsAll}

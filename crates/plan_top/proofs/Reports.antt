@@ -4,7 +4,7 @@ use Rattle.std.specs.Prelude.{IsTrue, decimal}
 use Rattle.std.specs.List.{list_all}
 use Rattle.std.proofs.lemmas.List.{take-append-drop}
 use Rattle.std.proofs.lemmas.List.Elements.{All-nil}
-use Rattle.pl_io.specs.Outside.{appended, TakesFront}
+use Rattle.pl_io.specs.Outside.{TakesFront}
 use Rattle.report_lines.specs.Lines.{is_line, joined}
 use Rattle.report_lines.specs.Horizons.{Says, IsEntry, is_word, is_remark}
 use Rattle.report_lines.specs.Laws.{ReportsSayEntries}

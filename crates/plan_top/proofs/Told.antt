@@ -1,5 +1,5 @@
 -- What comes of the files that were handed over, and which answers their bytes give.
-use Rattle.std.proofs.Common.{◌≡◌, ℕ, ◌+◌, Bool, true, List, [], ◌∷◌, Some, None, subst, refl, ◌∙◌, sym, inl, inr}
+use Rattle.std.proofs.Common.{◌≡◌, ℕ, ◌+◌, true, List, [], ◌∷◌, Some, None, subst, refl, ◌∙◌, sym, inl, inr}
 use Rattle.pl_io.specs.Outside.{Heard}
 use Rattle.horizon_rates.specs.declared.settings.Settings.{Settings}
 use Rattle.plan_endings.specs.declared.ending.File.{File}

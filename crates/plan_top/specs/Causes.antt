@@ -1,5 +1,5 @@
 -- When each ending of a run comes.
-use Rattle.std.specs.Prelude.{◌≡◌, ◌≤◌, ℕ, List, [], ◌∷◌, ◌++◌, Bool, true, false, IsTrue, Option, Some, None}
+use Rattle.std.specs.Prelude.{◌≡◌, ◌≤◌, ℕ, List, [], ◌∷◌, ◌++◌, Bool, true, false, IsTrue, Some, None}
 use Rattle.pl_io.specs.Outside.{Heard}
 use Rattle.requests.specs.Seen.{Seen, Numbers, plans, plans_by, checks, grounds, orders, generates, proves, verifies, batches, files_of}
 use Rattle.requests.specs.declared.request.Turns.{Turns}

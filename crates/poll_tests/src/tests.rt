@@ -2,6 +2,5 @@
 mod batches;
 mod horizons;
 mod lamps;
-mod noted;
 mod polls;
 mod seen;
