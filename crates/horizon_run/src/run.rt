@@ -141,6 +141,7 @@ impl HorizonRun {
         ensures moved { self.now.spoilt ≡ false → IsMoved self.now }
         ensures reached { (k : ℕ) → IsReached (choice_in self.now) self.now.formula k }
         ensures settled { Stays (choice_in self.now) self.now.formula }
+        ensures adds_up { AddsUp (choice_in self.now) self.now.formula }
     {
         self.keeps_laws();
         self.solver.standing()

@@ -9,11 +9,11 @@ ghost use Rattle.poll_race.specs.Tied.{IsWithin, numbers_of};
 ghost use Rattle.poll_race.specs.Works.{polls_of};
 
 use crate::work::Work;
+use ahead_run::AheadRun;
 use clause_base::memory::Memory;
 use futures::Future;
 use futures::task::{Context, Poll};
 use horizon_rates::Settings;
-use horizon_run::HorizonRun;
 use race::{Begun, with_all_granted};
 use solver_pool::{Job, Resume};
 use step_encoding::form::StepForm;
@@ -23,12 +23,12 @@ use step_encoding::form::StepForm;
 #[derive(Drop)]
 pub(crate) struct Round {
     pub(crate) begun: Begun,
-    pub(crate) done: Vec<HorizonRun>,
+    pub(crate) done: Vec<AheadRun>,
     pub(crate) works: Vec<Work>,
 }
 
 /// A run that was given, with all of its target granted.
-fn finished(run: HorizonRun, target: u64) -> Result<HorizonRun, Memory>
+fn finished(run: AheadRun, target: u64) -> Result<AheadRun, Memory>
     requires within { run.spoilt ≡ false → run.granted ≤ target }
     requires target { target ≤ 1073741824 }
     ensures at_target { IfOk result (λ end. end ≡ moved_to run target) }

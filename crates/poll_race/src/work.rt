@@ -4,8 +4,8 @@ ghost use Rattle.std.specs.List.{AllByRecursion};
 ghost use Rattle.race.specs.Runs.{run_at};
 ghost use Rattle.poll_race.specs.Works.{at_targets, AreAtWork};
 
+use ahead_run::AheadRun;
 use clause_base::memory::Memory;
-use horizon_run::HorizonRun;
 use poll_run::PollRun;
 use solver_pool::{Job, Resume};
 use std::alloc::Global;
@@ -13,14 +13,14 @@ use std::alloc::Global;
 /// A run of this round, and how many conflicts it was granted before.
 #[derive(Drop)]
 pub(crate) struct Work {
-    pub(crate) poll: PollRun<HorizonRun>,
+    pub(crate) poll: PollRun<AheadRun>,
     pub(crate) before: u64,
 }
 
 /// A poll for each job, up to its target.
 pub(crate) fn works_of(
     alloc: Global,
-    jobs: Vec<Job<HorizonRun>>,
+    jobs: Vec<Job<AheadRun>>,
     slice: u32,
 ) -> Result<Vec<Work>, Memory>
     requires sound { AllByRecursion (λ job. job.run.spoilt ≡ false) jobs.items }

@@ -8,10 +8,10 @@ ghost use Rattle.race.specs.Fresh.{IsFresh, IsSmall};
 
 use crate::fresh::shared_run;
 use crate::racing::Racing;
+use ahead_run::AheadRun;
 use clause_base::memory::Memory;
 use goal_choice::Supporters;
 use horizon_rates::{Rates, Settings};
-use horizon_run::HorizonRun;
 use std::alloc::Global;
 use std::thread;
 use std::thread::Threads;
@@ -53,8 +53,8 @@ fn small_from<F: StepForm>(
 /// Adds the runs of a form's horizons that were made, where all of them were.
 fn push_made<F: StepForm>(
     form: &F,
-    made: Vec<Result<HorizonRun, Memory>>,
-    runs: &mut Vec<HorizonRun>,
+    made: Vec<Result<AheadRun, Memory>>,
+    runs: &mut Vec<AheadRun>,
 ) -> Result<(), Memory>
     requires made { AllByRecursion (λ run. IfOk run (IsFresh F.StepForm form.now)) made.items }
     requires runs { AllByRecursion (IsFresh F.StepForm form.now) runs.old.items }
@@ -74,7 +74,7 @@ fn push_fresh<F: StepForm + Sync, H: Threads + Sync>(
     supporters: &Supporters,
     form: &F,
     horizons: Vec<u32>,
-    runs: &mut Vec<HorizonRun>,
+    runs: &mut Vec<AheadRun>,
 ) -> Result<(), Memory>
     requires supporters { supporters.now ≡ gathered_of (F.task form.now) }
     requires small { All (IsSmall F.StepForm form.now) horizons.items }
@@ -84,7 +84,7 @@ fn push_fresh<F: StepForm + Sync, H: Threads + Sync>(
     let made = thread::map_vec(
         rt,
         horizons,
-        &|horizon: u32| -> Result<HorizonRun, Memory>
+        &|horizon: u32| -> Result<AheadRun, Memory>
             requires supporters { supporters.now ≡ gathered_of (F.task form.now) }
             requires small { IsSmall F.StepForm form.now horizon }
             ensures { IfOk result (IsFresh F.StepForm form.entry.now) }
@@ -103,7 +103,7 @@ fn fresh_from<F: StepForm + Sync, H: Threads + Sync>(
     settings: &Settings,
     mut first: u32,
     mut left: u32,
-) -> Result<Vec<HorizonRun>, Memory>
+) -> Result<Vec<AheadRun>, Memory>
     requires { supporters.now ≡ gathered_of (F.task form.now) }
     ensures { IfOk result (λ runs. AllByRecursion (IsFresh F.StepForm form.now) runs.items) }
 {
@@ -127,7 +127,7 @@ impl Racing {
         supporters: &Supporters,
         form: &F,
         settings: &Settings,
-    ) -> Result<Vec<HorizonRun>, Memory>
+    ) -> Result<Vec<AheadRun>, Memory>
         requires { supporters.now ≡ gathered_of (F.task form.now) }
         ensures { IfOk result (λ runs. AllByRecursion (IsFresh F.StepForm form.now) runs.items) }
     {

@@ -10,9 +10,9 @@ ghost use Rattle.race.specs.Tied.{race_state, IsTied, Stands, SpendsMore, HasEnd
 use crate::grant::{book, grant_all};
 use crate::racing::{Racing, Step};
 use crate::work::conflicts_of;
+use ahead_run::AheadRun;
 use clause_base::memory::Memory;
 use horizon_rates::{Ledger, Rates, Settings, Window};
-use horizon_run::HorizonRun;
 use race_end::Line;
 use std::alloc::Global;
 use step_encoding::form::StepForm;
@@ -42,7 +42,7 @@ pub struct Opening {
     /// The rest of the race.
     pub begun: Begun,
     /// The runs of the live horizons, rising.
-    pub runs: Vec<HorizonRun>,
+    pub runs: Vec<AheadRun>,
     /// How many conflicts each run is granted.
     pub grants: Vec<u32>,
 }
@@ -88,8 +88,19 @@ impl Racing {
 }
 
 impl Begun {
+    /// How many conflicts a run may be ahead of its grants: what the next round may grant it.
+    pub(crate) fn ahead(&self, settings: &Settings) -> u32 {
+        let quota = settings.rates.quota;
+        let left = self.ledger.left();
+        if left < u64::from(quota) {
+            left as u32
+        } else {
+            quota
+        }
+    }
+
     /// The race once its runs are back. What the round used is booked.
-    fn close(self, runs: Vec<HorizonRun>) -> Racing
+    fn close(self, runs: Vec<AheadRun>) -> Racing
         ghost input: { RaceInput }
         requires { HasRun input self runs.items }
         ensures tied { IsTied input result }
@@ -124,7 +135,7 @@ impl Begun {
         alloc: Global,
         form: &F,
         settings: &Settings,
-        runs: Vec<HorizonRun>,
+        runs: Vec<AheadRun>,
     ) -> Result<Step, Memory>
         ghost input: { RaceInput }
         requires run { HasRun input self runs.items }
@@ -145,7 +156,7 @@ impl Begun {
         alloc: Global,
         form: &F,
         settings: &Settings,
-        runs: Vec<HorizonRun>,
+        runs: Vec<AheadRun>,
     ) -> Result<Step, Memory>
         requires { HasRun (input_of F.StepForm form.now settings.now) self runs.items }
         ensures { IfOk result (Comes F.StepForm form.now settings.now (self.rounds + 1)) }

@@ -5,6 +5,7 @@ ghost use Rattle.std.specs.List.{AllByRecursion};
 ghost use Rattle.goal_choice.specs.Means.{gathered_of};
 ghost use Rattle.race.specs.Fresh.{IsFresh, IsFreshOf, IsSmall};
 
+use ahead_run::AheadRun;
 use clause_base::memory::Memory;
 use goal_choice::Supporters;
 use gt_core::task::Task;
@@ -19,14 +20,14 @@ pub(crate) fn fresh_run<F: StepForm>(
     task: &Task,
     form: &F,
     horizon: u32,
-) -> Result<HorizonRun, Memory>
+) -> Result<AheadRun, Memory>
     requires form_of { F.task form.now ≡ task.now }
     requires small { IsSmall F.StepForm form.now horizon }
     ensures of { IfOk result (IsFreshOf F.StepForm form.now horizon) }
     ensures fresh { IfOk result (IsFresh F.StepForm form.now) }
 {
     let run = HorizonRun::new(alloc, task, form, horizon)?;
-    Ok(run)
+    Ok(AheadRun::of(run))
 }
 
 /// The run of a horizon before its first conflict, over supporters that the runs of other horizons share.
@@ -35,17 +36,17 @@ pub(crate) fn shared_run<F: StepForm>(
     supporters: &Supporters,
     form: &F,
     horizon: u32,
-) -> Result<HorizonRun, Memory>
+) -> Result<AheadRun, Memory>
     requires supporters { supporters.now ≡ gathered_of (F.task form.now) }
     requires small { IsSmall F.StepForm form.now horizon }
     ensures { IfOk result (IsFresh F.StepForm form.now) }
 {
     let run = HorizonRun::sharing(alloc, supporters, form, horizon)?;
-    Ok(run)
+    Ok(AheadRun::of(run))
 }
 
 /// Takes the first of some runs, where it is that of a horizon.
-fn take_first(made: &mut Vec<HorizonRun>, horizon: u32) -> Option<HorizonRun>
+fn take_first(made: &mut Vec<AheadRun>, horizon: u32) -> Option<AheadRun>
     ensures some { IfSome result (λ run. (run.formula.name ≡ horizon) × (made.old.items ≡ run ∷ made.new.items)) }
     ensures none { IfNone result (made.new.items ≡ made.old.items) }
 {
@@ -61,8 +62,8 @@ pub(crate) fn next_fresh<F: StepForm>(
     task: &Task,
     form: &F,
     horizon: u32,
-    made: &mut Vec<HorizonRun>,
-) -> Result<HorizonRun, Memory>
+    made: &mut Vec<AheadRun>,
+) -> Result<AheadRun, Memory>
     requires form_of { F.task form.now ≡ task.now }
     requires small { IsSmall F.StepForm form.now horizon }
     requires made { AllByRecursion (IsFresh F.StepForm form.now) made.old.items }

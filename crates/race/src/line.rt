@@ -3,15 +3,15 @@ ghost use Rattle.std.specs.Prelude.{◌≡◌, IfOk};
 ghost use Rattle.race.specs.{Clears.passed_line, Found.open_line, Input.RaceInput, Lines.IsLine, Runs.live_run_of, Runs.IsRunOf};
 ghost use Rattle.race_end.specs.Ends.{line_view};
 
+use ahead_run::AheadRun;
 use cdcl_rules::standing::Standing;
 use clause_base::memory::Memory;
-use horizon_run::HorizonRun;
 use race_end::{Line, LineEnd};
 use solver_pool::Resume;
 use std::alloc::Global;
 
 /// The line of a run that ended so.
-fn line_of(run: &HorizonRun, end: LineEnd) -> Line
+fn line_of(run: &AheadRun, end: LineEnd) -> Line
     ensures { result ≡ record { horizon = run.now.formula.name; conflicts = run.now.state.conflicts; end = end } }
 {
     Line {
@@ -22,7 +22,7 @@ fn line_of(run: &HorizonRun, end: LineEnd) -> Line
 }
 
 /// The line of a run that is live at the end: its log is certified where it is refuted.
-pub(crate) fn open(alloc: Global, run: &HorizonRun) -> Result<Line, Memory>
+pub(crate) fn open(alloc: Global, run: &AheadRun) -> Result<Line, Memory>
     ghost input: { RaceInput }
     requires run { IsRunOf input run.now }
     ensures told { IfOk result (λ line. line_view line ≡ open_line (live_run_of run.now)) }
@@ -37,7 +37,7 @@ pub(crate) fn open(alloc: Global, run: &HorizonRun) -> Result<Line, Memory>
 }
 
 /// The line of a run that is passed by a refuted one or refuted itself.
-fn passed(alloc: Global, run: &HorizonRun) -> Result<Line, Memory>
+fn passed(alloc: Global, run: &AheadRun) -> Result<Line, Memory>
     ghost input: { RaceInput }
     requires run { IsRunOf input run.now }
     requires unfound { run.now.state.standing ≡ Standing.Found → ⊥ }
@@ -51,7 +51,7 @@ fn passed(alloc: Global, run: &HorizonRun) -> Result<Line, Memory>
 }
 
 /// The line of a run that ends here, since it is passed by a refuted one or refuted itself.
-pub(crate) fn ended(alloc: Global, run: HorizonRun) -> Result<Line, Memory>
+pub(crate) fn ended(alloc: Global, run: AheadRun) -> Result<Line, Memory>
     ghost input: { RaceInput }
     requires run { IsRunOf input run }
     requires unfound { run.state.standing ≡ Standing.Found → ⊥ }

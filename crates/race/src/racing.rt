@@ -12,10 +12,10 @@ ghost use Rattle.race.specs.Tied.{race_state, IsTied, IsBetween, Stands, HasEnde
 ghost use Rattle.race_end.specs.Ends.{conflicts_in, line_view};
 
 use crate::line::{ended, open};
+use ahead_run::AheadRun;
 use cdcl_rules::standing::Standing;
 use clause_base::memory::Memory;
 use horizon_rates::{Ledger, Settings, Window};
-use horizon_run::HorizonRun;
 use race_end::{Line, Lines, RaceEnd};
 use solver_pool::Resume;
 use std::alloc::Global;
@@ -31,7 +31,7 @@ pub struct Racing {
     /// The horizon that was started last.
     pub last: u32,
     /// The runs of the live horizons, rising.
-    pub runs: Vec<HorizonRun>,
+    pub runs: Vec<AheadRun>,
     /// The lines of the horizons that are live no more, rising.
     pub lines: Vec<Line>,
     /// How many rounds ended.
@@ -48,21 +48,21 @@ pub enum Step {
 }
 
 /// Whether a run is found.
-fn is_found(run: &HorizonRun) -> bool
+fn is_found(run: &AheadRun) -> bool
     ensures { result ≡ is_found run.now.state.standing }
 {
     matches!(run.standing(), Standing::Found)
 }
 
 /// Whether a run is refuted.
-fn is_refuted(run: &HorizonRun) -> bool
+fn is_refuted(run: &AheadRun) -> bool
     ensures { result ≡ is_refuted run.now.state.standing }
 {
     matches!(run.standing(), Standing::Refuted)
 }
 
 /// The place of the first run that is found.
-fn find_found(runs: &[HorizonRun]) -> Option<usize>
+fn find_found(runs: &[AheadRun]) -> Option<usize>
     ensures none { IfNone result (first_found (map live_run_of runs.now) ≡ None) }
     ensures unfound { IfNone result (AreUnfound runs.now) }
     ensures some { IfSome result (λ place. first_found (map live_run_of runs.now) ≡ slice_get (map live_run_of runs.now) place) }
@@ -78,7 +78,7 @@ fn find_found(runs: &[HorizonRun]) -> Option<usize>
 }
 
 /// Whether some run is refuted.
-fn has_refuted(runs: &[HorizonRun]) -> bool
+fn has_refuted(runs: &[AheadRun]) -> bool
     ensures { result ≡ any_refuted (map live_run_of runs.now) }
 {
     for run in runs {

@@ -50,7 +50,8 @@ impl Racing {
             runs,
             grants,
         } = opening;
-        let runs = advance_all(rt, alloc, runs, grants.as_slice(), settings, gate)?;
+        let most = begun.ahead(settings);
+        let runs = advance_all(rt, alloc, runs, grants.as_slice(), most, settings, gate)?;
         Ok(begun.end(alloc, form, settings, runs)?)
     }
 }

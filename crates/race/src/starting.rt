@@ -12,10 +12,10 @@ use crate::begun::Opening;
 use crate::error::RaceError;
 use crate::fresh::next_fresh;
 use crate::racing::Racing;
+use ahead_run::AheadRun;
 use clause_base::memory::Memory;
 use gt_core::task::Task;
 use horizon_rates::{Rates, Settings};
-use horizon_run::HorizonRun;
 use std::alloc::Global;
 use step_encoding::form::StepForm;
 use step_encoding::limits::PLANNER_LITERALS;
@@ -44,7 +44,7 @@ impl Racing {
     }
 
     /// Starts the next listed horizon with its run.
-    fn start<F: StepForm>(&mut self, form: &F, horizon: u32, run: HorizonRun) -> Result<(), Memory>
+    fn start<F: StepForm>(&mut self, form: &F, horizon: u32, run: AheadRun) -> Result<(), Memory>
         ghost input: { RaceInput }
         requires tied { IsTied input self.old }
         requires low { AreLow self.old.runs.items }
@@ -76,7 +76,7 @@ impl Racing {
         task: &Task,
         form: &F,
         rates: &Rates,
-        mut made: Vec<HorizonRun>,
+        mut made: Vec<AheadRun>,
     ) -> Result<(), Memory>
         ghost input: { RaceInput }
         requires tied { IsTied input self.old }
@@ -118,7 +118,7 @@ impl Racing {
         task: &Task,
         form: &F,
         settings: &Settings,
-        made: Vec<HorizonRun>,
+        made: Vec<AheadRun>,
     ) -> Result<Opening, RaceError>
         ghost input: { RaceInput }
         requires between { IsBetween input self }
@@ -151,7 +151,7 @@ impl Racing {
         task: &Task,
         form: &F,
         settings: &Settings,
-        made: Vec<HorizonRun>,
+        made: Vec<AheadRun>,
     ) -> Result<Opening, RaceError>
         requires between { IsBetween (input_of F.StepForm form.now settings.now) self }
         requires form_of { F.task form.now ≡ task.now }

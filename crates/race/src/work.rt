@@ -3,16 +3,16 @@ ghost use Rattle.std.specs.Prelude.{◌≡◌, ◌≤◌, false, length, map, If
 ghost use Rattle.std.specs.List.{AllByRecursion};
 ghost use Rattle.race.specs.Runs.{conflicts_of, jobs_at, run_at, moved_all, Fits, MayAdvance};
 
+use ahead_run::AheadRun;
 use clause_base::memory::Memory;
 use horizon_rates::Settings;
-use horizon_run::HorizonRun;
 use solver_pool::{Gate, Job, Jobs, Resume, round};
 use std::alloc::Global;
 use std::sync::Wait;
 use std::thread::Threads;
 
 /// How many conflicts runs have handled together.
-pub(crate) fn conflicts_of(runs: &[HorizonRun]) -> u64
+pub(crate) fn conflicts_of(runs: &[AheadRun]) -> u64
     requires { length runs.now ≤ 16 }
     ensures { result ≡ conflicts_of runs.now }
 {
@@ -26,15 +26,17 @@ pub(crate) fn conflicts_of(runs: &[HorizonRun]) -> u64
 /// A job for each run, up to what it was granted before and now.
 fn list_jobs(
     alloc: Global,
-    runs: Vec<HorizonRun>,
+    runs: Vec<AheadRun>,
     grants: &[u32],
-) -> Result<Vec<Job<HorizonRun>>, Memory>
+    most: u32,
+) -> Result<Vec<Job<AheadRun>>, Memory>
     requires { Fits runs.items grants.now }
     ensures { IfOk result (λ jobs. jobs.items ≡ jobs_at runs.items grants.now) }
 {
     let mut jobs = Vec::new(alloc);
     for run in runs {
         let target = run.granted() + grants[jobs.len()] as u64;
+        let run = run.allowed(most);
         if jobs.push(Job { run, target }).is_err() {
             return Err(Memory);
         }
@@ -45,9 +47,9 @@ fn list_jobs(
 /// A job for each run of a round, up to what it was granted before and now.
 pub fn jobs_of(
     alloc: Global,
-    runs: Vec<HorizonRun>,
+    runs: Vec<AheadRun>,
     grants: &[u32],
-) -> Result<Vec<Job<HorizonRun>>, Memory>
+) -> Result<Vec<Job<AheadRun>>, Memory>
     requires { MayAdvance runs.items grants.now }
     ensures jobs { IfOk result (λ jobs. jobs.items ≡ jobs_at runs.items grants.now) }
     ensures sound { IfOk result (λ jobs. AllByRecursion (λ job. job.run.spoilt ≡ false) jobs.items) }
@@ -55,11 +57,11 @@ pub fn jobs_of(
     // With all of their targets granted, they are the runs advanced by their grants.
     ensures moved { IfOk result (λ jobs. map run_at jobs.items ≡ moved_all runs.items grants.now) }
 {
-    list_jobs(alloc, runs, grants)
+    list_jobs(alloc, runs, grants, 0)
 }
 
 /// The run of a job, with all of its target granted: a settled one may have been granted less.
-pub fn with_all_granted(job: Job<HorizonRun>) -> Result<HorizonRun, Memory>
+pub fn with_all_granted(job: Job<AheadRun>) -> Result<AheadRun, Memory>
     ensures { IfOk result (λ run. run ≡ run_at job) }
 {
     let rest = (job.target - job.run.granted()) as u32;
@@ -69,7 +71,7 @@ pub fn with_all_granted(job: Job<HorizonRun>) -> Result<HorizonRun, Memory>
 }
 
 /// The runs of jobs that workers brought to their targets.
-fn runs_of(alloc: Global, jobs: Vec<Job<HorizonRun>>) -> Result<Vec<HorizonRun>, Memory>
+fn runs_of(alloc: Global, jobs: Vec<Job<AheadRun>>) -> Result<Vec<AheadRun>, Memory>
     ensures { IfOk result (λ runs. runs.items ≡ map run_at jobs.items) }
 {
     let mut runs = Vec::new(alloc);
@@ -83,15 +85,16 @@ fn runs_of(alloc: Global, jobs: Vec<Job<HorizonRun>>) -> Result<Vec<HorizonRun>,
 pub(crate) fn advance_all<G: Gate, H: Threads + Wait + Sync>(
     rt: &H,
     alloc: Global,
-    runs: Vec<HorizonRun>,
+    runs: Vec<AheadRun>,
     grants: &[u32],
+    most: u32,
     settings: &Settings,
     gate: &G,
-) -> Result<Vec<HorizonRun>, Memory>
+) -> Result<Vec<AheadRun>, Memory>
     requires { MayAdvance runs.items grants.now }
     ensures { IfOk result (λ out. out.items ≡ moved_all runs.items grants.now) }
 {
-    let jobs = Jobs::new(jobs_of(alloc, runs, grants)?);
+    let jobs = Jobs::new(list_jobs(alloc, runs, grants, most)?);
     // For the proof: where the jobs rise, no two have one horizon.
     let _rising = jobs.are_rising();
     match round(rt, alloc, jobs, settings.workers, settings.slice, gate) {

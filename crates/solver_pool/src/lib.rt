@@ -14,6 +14,7 @@
 #![tactic(auto)]
 
 mod count_run;
+mod crew;
 mod gate;
 mod job;
 mod jobs;

@@ -69,6 +69,17 @@ pub trait Resume: Drop {
         ensures moved { spoilt_at self.now ≡ false
             → state_of self.now ≡ state_of (moved (origin_of self.now) (granted_of self.now)) };
 
+    /// May do the work of one unit that was not granted yet, so that it takes less time once it is granted. For its clients the
+    /// run stays as it is, or it is spoilt. It says whether it did.
+    fn work_ahead(&mut self) -> bool
+        ensures horizon { horizon_of self.new ≡ horizon_of self.old }
+        ensures origin { origin_of self.new ≡ origin_of self.old }
+        ensures granted { granted_of self.new ≡ granted_of self.old }
+        ensures same { spoilt_at self.new ≡ false → self.new ≡ self.old }
+    {
+        false
+    }
+
     /// Whether a run has more to do is told by its state.
     ghost by_state: { (r : Self) → unsettled_at (state_of r) ≡ unsettled_at r };
 }

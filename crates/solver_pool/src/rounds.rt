@@ -4,6 +4,7 @@ ghost use Rattle.solver_pool.specs.Job.{Differ, AreRising, AreSound, horizon_in,
 ghost use Rattle.solver_pool.specs.Ring.{IsSlice};
 ghost use Rattle.solver_pool.specs.Rounds.{IsRound};
 
+use crate::crew::Crew;
 use crate::sorted::give_back;
 use crate::turns::{turns_of, worker_count};
 use crate::worker::{Worker, finish};
@@ -37,8 +38,8 @@ pub fn round<R: Resume + Send, G: Gate, H: Threads + Wait + Sync>(
     // Jobs that came in rising order come back in the same places.
     ensures in_order { IfOk result (λ out. AreRising R.Resume jobs → map (entry_of R.Resume) out ≡ map (entry_of R.Resume) jobs) }
 {
-    let turns = turns_of(jobs.as_slice());
     let count = worker_count(jobs.as_slice(), workers);
+    let crew = Crew::new(count, turns_of(jobs.as_slice()), jobs.len());
     let Opened { ring, owner } = Ring::open(rt, alloc, jobs)?;
     let mut owner = Worker {
         pass: owner,
@@ -46,13 +47,13 @@ pub fn round<R: Resume + Send, G: Gate, H: Threads + Wait + Sync>(
         failed: false,
     };
     let started = new_workers(rt, &ring, &mut owner, alloc, count)?;
-    let Ok(back) = all_work(rt, &ring, started, slice, gate, turns) else {
+    let Ok(back) = all_work(rt, &ring, started, slice, gate, &crew) else {
         return Err(Memory);
     };
     take_in_all(rt, &ring, &mut owner, back);
 
     // What the workers left in the ring, since each made no more turns than it may, is finished here.
-    let owner = finish(rt, &ring, owner, slice, gate);
+    let owner = finish(rt, &ring, owner, slice, gate, &crew);
     if owner.failed {
         return Err(Memory);
     }

@@ -3,8 +3,10 @@ ghost use Rattle.std.specs.Prelude.{◌≡◌, IsTrue};
 ghost use Rattle.crossbeam_queue.specs.Passes.{view};
 ghost use Rattle.solver_pool.specs.Steps.{TookAll};
 ghost use Rattle.solver_pool.specs.Ring.{IsRingPass, IsSlice};
+ghost use Rattle.solver_pool.specs.Serve.{IsEnded};
 ghost use Rattle.solver_pool.specs.Worker.{StaysAtWork};
 
+use crate::crew::Crew;
 use crate::one_turn::put_or_note;
 use crate::{Gate, Job, Pass, Resume, Ring, Served, serve_one};
 use std::sync::Wait;
@@ -17,6 +19,31 @@ pub(crate) struct Worker<R: Resume> {
     pub(crate) failed: bool,
 }
 
+/// Works a unit ahead on the run of a job that is done. Says whether it did.
+fn go_ahead<R: Resume>(job: &mut Job<R>) -> bool
+    ensures horizon { R.horizon_of job.new.run ≡ R.horizon_of job.old.run }
+    ensures origin { R.origin_of job.new.run ≡ R.origin_of job.old.run }
+    ensures target { job.new.target ≡ job.old.target }
+    ensures ended { IsEnded R.Resume job.old → IsEnded R.Resume job.new }
+{
+    job.run.work_ahead()
+}
+
+/// Works ahead on the run of a job that is done, while others are not and there is no other job to do.
+fn work_ahead<R: Resume>(job: &mut Job<R>, crew: &Crew)
+    ensures horizon { R.horizon_of job.new.run ≡ R.horizon_of job.old.run }
+    ensures origin { R.origin_of job.new.run ≡ R.origin_of job.old.run }
+    ensures target { job.new.target ≡ job.old.target }
+    ensures ended { IsEnded R.Resume job.old → IsEnded R.Resume job.new }
+{
+    crew.note_done();
+    for _turn in 0..crew.turns() {
+        if !crew.has_rest() || !go_ahead(job) {
+            break;
+        }
+    }
+}
+
 /// One turn. It says whether the ring was found empty.
 fn turn<R: Resume, G: Gate, H: Wait>(
     rt: &H,
@@ -24,6 +51,7 @@ fn turn<R: Resume, G: Gate, H: Wait>(
     worker: &mut Worker<R>,
     slice: u32,
     gate: &G,
+    crew: &Crew,
 ) -> bool
     requires pass { IsRingPass R.Resume ring.now worker.old.pass }
     requires slice { IsSlice slice }
@@ -33,7 +61,8 @@ fn turn<R: Resume, G: Gate, H: Wait>(
 {
     match serve_one(rt, ring, &mut worker.pass, slice, gate) {
         Served::Back => false,
-        Served::Done(job) => {
+        Served::Done(mut job) => {
+            work_ahead(&mut job, crew);
             put_or_note(&mut worker.done, job, &mut worker.failed);
             false
         }
@@ -48,15 +77,15 @@ pub(crate) fn work<R: Resume, G: Gate, H: Wait>(
     mut worker: Worker<R>,
     slice: u32,
     gate: &G,
-    turns: u64,
+    crew: &Crew,
 ) -> Worker<R>
     requires pass { IsRingPass R.Resume ring.now worker.pass }
     requires slice { IsSlice slice }
     ensures pass { IsRingPass R.Resume ring.now result.pass }
     ensures work { StaysAtWork R.Resume worker result }
 {
-    for _turn in 0..turns {
-        if turn(rt, ring, &mut worker, slice, gate) {
+    for _turn in 0..crew.turns() {
+        if turn(rt, ring, &mut worker, slice, gate, crew) {
             break;
         }
     }
@@ -70,6 +99,7 @@ pub(crate) fn finish<R: Resume, G: Gate, H: Wait>(
     mut worker: Worker<R>,
     slice: u32,
     gate: &G,
+    crew: &Crew,
 ) -> Worker<R>
     requires pass { IsRingPass R.Resume ring.now worker.pass }
     requires slice { IsSlice slice }
@@ -78,7 +108,7 @@ pub(crate) fn finish<R: Resume, G: Gate, H: Wait>(
     ensures empty { TookAll (view result.pass.pass) }
 {
     for _turn in rt.forever() {
-        if turn(rt, ring, &mut worker, slice, gate) {
+        if turn(rt, ring, &mut worker, slice, gate, crew) {
             return worker;
         }
     }

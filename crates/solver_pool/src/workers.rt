@@ -6,6 +6,7 @@ ghost use Rattle.solver_pool.specs.Ring.{IsRingPass, IsSlice};
 ghost use Rattle.solver_pool.specs.Worker.{StaysAtWork, IsWorkerOf, HasWorkerPass, StartsWorkers, TakesIn, TakesAllIn};
 ghost use denote.Param.Send.{IsSync};
 
+use crate::crew::Crew;
 use crate::worker::{Worker, work};
 use crate::{Gate, Memory, Resume, Ring};
 use std::alloc::{AllocError, Global};
@@ -49,7 +50,7 @@ pub(crate) fn all_work<R: Resume + Send, G: Gate, H: Threads + Wait + Sync>(
     workers: Vec<Worker<R>>,
     slice: u32,
     gate: &G,
-    turns: u64,
+    crew: &Crew,
 ) -> Result<Vec<Worker<R>>, AllocError>
     requires slice { IsSlice slice }
     requires each { All (IsWorkerOf R.Resume ring.now) workers.items }
@@ -66,7 +67,7 @@ pub(crate) fn all_work<R: Resume + Send, G: Gate, H: Threads + Wait + Sync>(
             requires of { IsWorkerOf R.Resume ring.now worker }
             ensures of { IsWorkerOf R.Resume ring.entry.now result }
             ensures work { StaysAtWork R.Resume worker result }
-        { work(rt, ring, worker, slice, gate, turns) },
+        { work(rt, ring, worker, slice, gate, crew) },
     )
 }
 

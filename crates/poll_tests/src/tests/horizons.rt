@@ -60,6 +60,22 @@ fn no_step_is_refuted_and_one_step_is_found(rt: HostRuntime) {
     is_found_at_once(&rt, alloc, lamp_run(&rt, alloc, 1));
 }
 
+/// A run whose solver is a conflict ahead looks as before, until the conflict is granted.
+fn is_ahead_unseen<R: Seen>(rt: &impl Abort, alloc: Global, run: R) {
+    let mut run = run;
+    holds(rt, run.work_ahead());
+    looks(rt, alloc, &run, 0, 0, Standing::Going);
+    holds(rt, !run.work_ahead());
+    grant(rt, &mut run, 1);
+    looks(rt, alloc, &run, 1, 1, Standing::Refuted);
+}
+
+#[test]
+fn what_was_not_granted_is_not_seen(rt: HostRuntime) {
+    let alloc = rt.alloc();
+    is_ahead_unseen(&rt, alloc, lamp_run(&rt, alloc, 0).allowed(1));
+}
+
 /// Two runs, each with a target of 50 units.
 fn two_jobs<R: Resume>(rt: &impl Abort, alloc: Global, first: R, second: R) -> Jobs<R> {
     assert!(rt; first.granted() <= 50 && second.granted() <= 50);

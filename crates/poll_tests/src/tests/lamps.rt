@@ -4,6 +4,7 @@ ghost use Rattle.gt_core.specs.Published.{IsPublished};
 
 use action_order::order::Order;
 use action_order::publish::publish;
+use ahead_run::AheadRun;
 use gt_core::act::{Act, Acts};
 use gt_core::eff::{Eff, Effs};
 use gt_core::lits::{Bits, Lits};
@@ -61,18 +62,19 @@ pub(crate) fn form_of<'a>(rt: &impl Abort, alloc: Global, ground: &'a Ground) ->
 }
 
 /// The run of a horizon over a form of a small task.
-fn run_of<F: StepForm>(rt: &impl Abort, alloc: Global, task: &Task, form: &F, n: u8) -> HorizonRun
+fn run_of<F: StepForm>(rt: &impl Abort, alloc: Global, task: &Task, form: &F, n: u8) -> AheadRun
     requires { F.task form.now ≡ task.now }
 {
     let n = u32::from(n);
     assert!(rt; form.size(n) <= PLANNER_LITERALS);
-    HorizonRun::new(alloc, task, form, n)
+    let run = HorizonRun::new(alloc, task, form, n)
         .ok()
-        .expect(rt, "memory")
+        .expect(rt, "memory");
+    AheadRun::of(run)
 }
 
 /// The run of a horizon of the lamp that is off.
-pub(crate) fn lamp_run(rt: &impl Abort, alloc: Global, n: u8) -> HorizonRun {
+pub(crate) fn lamp_run(rt: &impl Abort, alloc: Global, n: u8) -> AheadRun {
     let off = grounded(rt, alloc, false);
     let form = form_of(rt, alloc, &off);
     run_of(rt, alloc, &off.task, &form, n)

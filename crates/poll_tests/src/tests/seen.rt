@@ -1,8 +1,8 @@
 //! What is seen of the run of a horizon of a lamp that is off.
 ghost use Rattle.std.specs.Prelude.{◌≡◌};
 
+use ahead_run::AheadRun;
 use cdcl_rules::standing::Standing;
-use horizon_run::HorizonRun;
 use solver_pool::Resume;
 use std::alloc::Global;
 use std::process::Abort;
@@ -20,7 +20,7 @@ pub(crate) trait Seen: Resume {
 }
 
 /// Whether its log is accepted so.
-fn is_certified(alloc: Global, run: &HorizonRun) -> bool
+fn is_certified(alloc: Global, run: &AheadRun) -> bool
     requires { run.now.state.standing ≡ Standing.Refuted }
 {
     match run.certify(alloc) {
@@ -30,7 +30,7 @@ fn is_certified(alloc: Global, run: &HorizonRun) -> bool
 }
 
 /// Whether its values are those.
-fn has_values(alloc: Global, run: &HorizonRun) -> bool
+fn has_values(alloc: Global, run: &AheadRun) -> bool
     requires { run.now.state.standing ≡ Standing.Found }
 {
     match run.values(alloc) {
@@ -39,7 +39,7 @@ fn has_values(alloc: Global, run: &HorizonRun) -> bool
     }
 }
 
-impl Seen for HorizonRun {
+impl Seen for AheadRun {
     fn is_at(&self, alloc: Global, conflicts: u64, wanted: Standing) -> bool {
         let is_wanted = match self.standing() {
             Standing::Going => matches!(wanted, Standing::Going),

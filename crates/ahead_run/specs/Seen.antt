@@ -1,0 +1,15 @@
+-- The run of a horizon that may be ahead of its grants, and what clients see of it.
+use Rattle.std.specs.Prelude.{◌≡◌, ℕ, false, ◌≤◌, if◌then◌else◌}
+use Rattle.cdcl_rules.specs.declared.standing.Standing.TheVariants.{Going}
+use Rattle.horizon_run.specs.Run.{RunView, moved_to}
+
+-- a run where so many granted conflicts have it, whatever its solver handled beyond them; a spoilt one as it is
+abbrev pub seen_of : RunView → ℕ → RunView
+seen_of r granted = if r.spoilt then record r { granted = granted } else moved_to r granted
+
+-- the granted conflicts lead to a state that goes on and has handled all of them
+pub record IsBehind (r : RunView) (granted : ℕ) : Type 0 where
+  pub sane : r.spoilt ≡ false
+  pub going : (seen_of r granted).state.standing ≡ Going
+  pub used_up : (seen_of r granted).state.conflicts ≡ granted
+  pub few : granted ≤ 1073741824
