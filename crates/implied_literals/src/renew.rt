@@ -1,14 +1,14 @@
 //! What literals tell, worked out anew after clauses were dropped: only where it may have become less.
 
-ghost use Rattle.std.specs.Prelude.{◌≡◌, ℕ, ◌+◌, ◌*◌, ◌<◌, ◌≤◌, ◌==◌, ◌&&◌, ◌||◌, not, true, false, if◌then◌else◌, length, IfOk, OnOk};
+ghost use Rattle.std.specs.Prelude.{◌≡◌, ℕ, ◌+◌, ◌*◌, ◌<◌, ◌==◌, ◌&&◌, ◌||◌, not, true, false, if◌then◌else◌, length, IfOk, OnOk};
 ghost use Rattle.std.specs.Bool.{OnTrue};
 ghost use Rattle.bit_sets.specs.Rows.{row_has};
 ghost use Rattle.gt_core.specs.Literal.{opposite};
 ghost use Rattle.implied_literals.specs.Rows.{row_at, clause_in, AreRows, IsPart, IsClosure};
 ghost use Rattle.implied_literals.specs.Tested.{IsSetOf};
-ghost use Rattle.implied_literals.specs.Renewed.{IsBound, AreRules, AreDone, WasClosed, WasTold};
+ghost use Rattle.implied_literals.specs.Renewed.{AreRules, AreDone, WasClosed, WasTold};
 
-use crate::bound::{Bound, add_partners, add_told};
+use crate::bound::{add_partners, add_told};
 use crate::close::{Done, Rules, Spare, close};
 use bit_sets::row::BitRow;
 use gt_core::lits::opposite;
@@ -47,26 +47,22 @@ fn has_fewer(one: &BitRow, other: &BitRow, third: &BitRow, fourth: &BitRow) -> b
 /// Whether none of some literals stands in a clause with the opposite of one of a set. Goes through the fewer of those of
 /// the set that tell something and of the others that stand in a clause. `room` is room for a row.
 fn none_follows(
-    clauses: &[BitRow],
-    bound: &Bound,
+    rules: &Rules,
     set: &BitRow,
     lits: &BitRow,
     room: &mut BitRow,
 ) -> Result<bool, AllocError>
-    requires few { length clauses.now ≤ 4096 }
-    requires even { (l : ℕ) → l < length clauses.now → opposite l < length clauses.now }
-    requires either { (l m : ℕ) → clause_in clauses.now l m ≡ clause_in clauses.now m l }
-    requires bound { IsBound (clause_in clauses.now) bound.now }
-    requires set { IsSetOf (length clauses.now) (row_has set.now) }
-    requires lits { IsSetOf (length clauses.now) (row_has lits.now) }
-    ensures { IfOk result (λ none. none ≡ true → (x y : ℕ) → row_has set.now x ≡ true → row_has lits.now y ≡ true → clause_in clauses.now y (opposite x) ≡ true → ⊥) }
+    requires rules { AreRules rules.now }
+    requires set { IsSetOf (2 * rules.now.facts) (row_has set.now) }
+    requires lits { IsSetOf (2 * rules.now.facts) (row_has lits.now) }
+    ensures { IfOk result (λ none. none ≡ true → (x y : ℕ) → row_has set.now x ≡ true → row_has lits.now y ≡ true → clause_in rules.now.clauses.now y (opposite x) ≡ true → ⊥) }
 {
     room.clear();
-    if has_fewer(set, &bound.opposites, lits, &bound.literals) {
-        add_told(clauses, bound, set, room)?;
+    if has_fewer(set, &rules.bound.opposites, lits, &rules.bound.literals) {
+        add_told(rules.clauses, rules.bound, set, room)?;
         return Ok(lits.least_common(room, 0).is_none());
     }
-    add_partners(clauses, bound, lits, room)?;
+    add_partners(rules.clauses, rules.bound, lits, room)?;
     Ok(is_apart(room, set))
 }
 
@@ -101,8 +97,7 @@ fn renew(
         let rest = &mut spare.rest;
         rest.make_same(old)?;
         rest.subtract(next);
-        let rules = done.rules;
-        if none_follows(rules.clauses, rules.bound, next, rest, &mut spare.room)? {
+        if none_follows(done.rules, next, rest, &mut spare.room)? {
             return Ok(true);
         }
     }

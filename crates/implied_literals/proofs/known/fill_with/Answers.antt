@@ -7,9 +7,6 @@ use Rattle.gt_core.proofs.Lists.{each_number}
 use Rattle.implied_literals.specs.Rows.{row_at}
 use Rattle.implied_literals.proofs.known.fill_with.Goals as goal
 
-pub bounds-rows-lit : goal.bounds-rows-lit
-bounds-rows-lit c = each_number (λ l. l < length c.args.rows.now) c.args.lits.now c.loop-lit.lit-index 0 c.requires c.loop-lit-test.true
-
 pub loop-lit-preserved : goal.loop-lit-preserved
 loop-lit-preserved c m =
     let rows = c.args.rows.now in
@@ -24,3 +21,6 @@ loop-lit-preserved c m =
     ∙ or_assoc row (told l) rest
     ∙ ap (λ (b : Bool). row || b) (sym (at_drop_more (list_any told) lits i 0 c.loop-lit-test.true))
     ∙ c.loop-lit.invariant m
+
+pub bounds-rows-lit : goal.bounds-rows-lit
+bounds-rows-lit c = each_number (λ l. l < length c.args.rows.now) c.args.lits.now c.loop-lit.lit-index 0 c.requires c.loop-lit-test.true

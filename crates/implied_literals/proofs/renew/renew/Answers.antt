@@ -1,8 +1,7 @@
-use Rattle.std.proofs.Common.{◌*◌, ◌<◌, ap, ℕ, subst, sym, ◌∙◌, ◌&&◌, not, Bool, List, inl, inr}
+use Rattle.std.proofs.Common.{◌*◌, ap, ℕ, sym, ◌∙◌, ◌&&◌, not, Bool, List, inl, inr}
 use Rattle.bit_sets.specs.Rows.{row_has}
 use Rattle.gt_core.specs.Literal.{opposite}
 use Rattle.implied_literals.specs.Rows.{clause_in, HasNoPair}
-use Rattle.implied_literals.proofs.Steps.{opposite_below}
 use Rattle.implied_literals.proofs.Renewing.{same_closed, pair_closed}
 use Rattle.gt_core.proofs.Basics.{cases, and_both}
 use Rattle.implied_literals.proofs.renew.renew.Goals as goal
@@ -12,11 +11,6 @@ returns-then-is_same c = same_closed (clause_in c.args.done.now.rules.now.clause
 
 pub returns-then-has_pair : goal.returns-then-has_pair
 returns-then-has_pair c = pair_closed (clause_in c.args.done.now.rules.now.clauses.now) (row_has c.args.next.now) c.if-has_pair.ensures
-
-pub none_follows-requires-clause-even : goal.none_follows-requires-clause-even
-none_follows-requires-clause-even c = λ l lt.
-    let long = c.requires.done.rules.clauses.long in
-    subst (λ (n : ℕ). opposite l < n) (sym long) (opposite_below l c.args.done.now.rules.now.facts (subst (λ (n : ℕ). l < n) long lt))
 
 pub returns-then-branch : goal.returns-then-branch
 returns-then-branch c = record {
