@@ -1,7 +1,8 @@
 -- A reader that has read a text reads on.
 use Rattle.std.proofs.Common.{arith, ◌≡◌, ◌+◌, ℕ, List, [], ◌∷◌, ◌++◌, length, Bool, true, false, Option, Some, None, refl, sym, ap, ◌∙◌, subst, length-append, append_assoc}
 use Rattle.lrat_text.specs.Lines.{whole_lines, last_part, has_no_end, counted}
-use Rattle.lrat_text.proofs.Texts.{lines_on, last_on, lines_same, last_more}
+use Rattle.lrat_text.proofs.Texts.{last_on, last_more}
+use Rattle.lrat_text.proofs.Pieces as pieces
 use Rattle.model_text.specs.Text.{Told, with_line, Outcome, Stops, Tells, after_lines, Reading, NoText, Values, values_told, reading_of, model_of}
 use Rattle.model_text.specs.Stands.{Table, Holds, ReaderView, HasTold, Goes, HasRead}
 use Rattle.model_text.proofs.Numbers.{went, went_not}
@@ -23,10 +24,7 @@ module _ (variables : ℕ) (text : List ℕ) (reader : ReaderView) (read : HasRe
 
     -- the lines up to that end, and lines after it, come to what the line leads to
     leads_on : (others : List ℕ) (more : List (List ℕ)) → after_lines variables nothing 0 (whole_lines (text ++ (end ++ 10 ∷ others)) ++ more) ≡ step variables read.at (length line) (whole_lines others ++ more) (with_line variables read.told line)
-    leads_on others more =
-        ap (λ (ls : List (List ℕ)). after_lines variables nothing 0 (ls ++ more)) (lines_on text end others none)
-        ∙ ap (after_lines variables nothing 0) (append_assoc (whole_lines text) (line ∷ whole_lines others) more)
-        ∙ read.leads (line ∷ (whole_lines others ++ more))
+    leads_on others more = pieces.leads_on (after_lines variables nothing 0) (after_lines variables read.told read.at) text read.leads end others more none
 
     held : (front : List ℕ) → front ≡ reader.front → front ++ end ≡ line
     held front is = ap (λ (t : List ℕ). t ++ end) (is ∙ read.front)
@@ -44,20 +42,14 @@ module _ (variables : ℕ) (text : List ℕ) (reader : ReaderView) (read : HasRe
     went_on next goes at empty =
         let w = went variables next (with_line variables read.told (reader.front ++ end)) goes in
         let is : with_line variables read.told line ≡ Some w.0 = ap (with_line variables read.told) (sym (held reader.front refl)) ∙ w.1 in
-        let last : last_part (text ++ (end ++ 10 ∷ [])) ≡ [] = last_on text end [] none in
-        let l1 : length (text ++ (end ++ 10 ∷ [])) ≡ length text + length (end ++ 10 ∷ []) = length-append text (end ++ 10 ∷ []) in
-        let l2 : length (end ++ 10 ∷ []) ≡ length end + 1 = length-append end (10 ∷ []) in
-        let l3 : length line ≡ length (last_part text) + length end = length-append (last_part text) end in
-        let l4 : length (last_part (text ++ (end ++ 10 ∷ []))) ≡ 0 = ap (λ (t : List ℕ). length t) last in
-        let l5 = read.begins in
         record {
           told = w.0;
           at = read.at + length line + 1;
           has = w.2;
           at_is = at ∙ ap (λ (t : List ℕ). counted (read.at + length t + 1)) (held reader.front refl);
           leads = λ more. leads_on [] more ∙ ap (step variables read.at (length line) more) is;
-          front = empty ∙ sym last;
-          begins = omega (arith, l1, l2, l3, l4, l5);
+          front = empty ∙ sym (last_on text end [] none);
+          begins = pieces.begins_on read.at text read.begins end none;
         }
 
   -- ---- a rest in which no line ends
@@ -68,12 +60,9 @@ module _ (variables : ℕ) (text : List ℕ) (reader : ReaderView) (read : HasRe
     at = read.at;
     has = record { holds = read.has.holds; ended = read.has.ended };
     at_is = read.at_is;
-    leads = λ more. ap (λ (ls : List (List ℕ)). after_lines variables nothing 0 (ls ++ more)) (lines_same text rest none) ∙ read.leads more;
+    leads = λ more. pieces.leads_same (after_lines variables nothing 0) (after_lines variables read.told read.at) text read.leads rest more none;
     front = ap (λ (t : List ℕ). t ++ rest) read.front ∙ sym (last_more text rest none);
-    begins =
-        let l1 : length (text ++ rest) ≡ length text + length rest = length-append text rest in
-        let l2 : length (last_part (text ++ rest)) ≡ length (last_part text) + length rest = ap (λ (t : List ℕ). length t) (last_more text rest none) ∙ length-append (last_part text) rest in
-        let l3 = read.begins in omega (arith, l1, l2, l3);
+    begins = pieces.begins_same read.at text read.begins rest none;
   })
 
   -- ---- the end of the text
