@@ -5,7 +5,6 @@ ghost use Rattle.proof_text.specs.declared.proof.ProofFault.TheVariants as error
 use clause_base::memory::Memory;
 use clause_log::log::Log;
 use containers::ListOf;
-use std::alloc::{AllocError, AllocFailed};
 
 /// The bytes of a text. Contracts see the list of them.
 pub type Text = ListOf<u8>;
@@ -26,22 +25,6 @@ pub enum ProofFault {
     Syntax { at: u32 },
     /// Want of memory.
     Memory,
-}
-
-impl From<AllocError> for ProofFault {
-    ghost from_gives = { λ _ e. e ≡ error.Memory };
-
-    fn from(_: AllocError) -> Self {
-        ProofFault::Memory
-    }
-}
-
-impl<T: Drop> From<AllocFailed<T>> for ProofFault {
-    ghost from_gives = { λ _ e. e ≡ error.Memory };
-
-    fn from(_: AllocFailed<T>) -> Self {
-        ProofFault::Memory
-    }
 }
 
 impl From<Memory> for ProofFault {
