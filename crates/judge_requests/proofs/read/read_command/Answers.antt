@@ -1,9 +1,12 @@
-use Rattle.std.proofs.Common.{sym, subst, map, string_bytes}
+use Rattle.std.proofs.Common.{List, Some, ap, sym, subst, map, string_bytes}
 use Rattle.clap.specs.Words.{App, app_of, found_of, rows_of}
+use Rattle.clap.specs.Walk.{Row}
+use Rattle.clap_words.proofs.Commands.{asked, unasked}
 use Rattle.clap_words.specs.Fit.{IsFit}
 use Rattle.clap_words.specs.Passed.{Passed}
-use Rattle.judge_requests.specs.Seen.{seen}
-use Rattle.judge_requests.proofs.Fit.{asked, fit, horizon_in, unasked}
+use Rattle.judge_requests.specs.Command.{command_of, steps_list}
+use Rattle.judge_requests.specs.Seen.{seen, seen_in}
+use Rattle.judge_requests.proofs.Fit.{as_list, fit, horizon_in}
 use Rattle.judge_requests.proofs.read.read_command.Goals as goal
 
 pub parse-requires : goal.parse-requires
@@ -20,10 +23,11 @@ returns-in-Ok-Some-clause-request c =
     let rows = rows_of (found_of c.in-Ok-Some.matches) in
     let taken = rw c.in-Ok-Some.field-0-is at c.in-Ok-Some.ensures.taken in
     let found = rw c.in-Ok-Some.field-0-is at c.in-Ok-Some.ensures.rows in
-    asked c.steps_reader-by.result c.steps_reader-by.ensures c.args.name (map string_bytes c.args.words.now) (app_of c.in-Ok.command) rows (seen c.request_in.result)
-    c.in-Ok.ensures taken found c.request_in.ensures.value
+    asked (app_of c.in-Ok.command) (command_of c.steps_reader-by.result c.args.name) (command_of steps_list c.args.name) (map string_bytes c.args.words.now) (λ (rows : List Row). Some (seen_in c.args.name rows)) c.in-Ok.ensures
+    (as_list c.steps_reader-by.result c.steps_reader-by.ensures c.args.name) rows (Some (seen c.request_in.result)) taken found (ap Some c.request_in.ensures.value)
 
 pub returns-in-Ok-None-clause-request : goal.returns-in-Ok-None-clause-request
 returns-in-Ok-None-clause-request c =
     let refused = rw c.in-Ok-None.field-0-is at c.in-Ok-None.ensures.taken in
-    unasked c.steps_reader-by.result c.steps_reader-by.ensures c.args.name (map string_bytes c.args.words.now) (app_of c.in-Ok.command) c.in-Ok.ensures refused
+    unasked (app_of c.in-Ok.command) (command_of c.steps_reader-by.result c.args.name) (command_of steps_list c.args.name) (map string_bytes c.args.words.now) (λ (rows : List Row). Some (seen_in c.args.name rows)) c.in-Ok.ensures
+    (as_list c.steps_reader-by.result c.steps_reader-by.ensures c.args.name) refused
