@@ -1,25 +1,17 @@
 -- What pages one after another come to as one of them changes.
-use Rattle.std.proofs.Common.{arith, ◌≡◌, ℕ, zero, suc, ◌+◌, ◌*◌, ◌/◌, ◌%◌, ◌<◌, ◌≤◌, List, [], ◌∷◌, ◌++◌, length, set, get_or, Bool, true, false, Result, Ok, refl, sym, ap, ◌∙◌, subst, length-append}
-use Rattle.std.proofs.lemmas.List.{get_or_past, get_or_append_left, get_or-append-add, set-get_or, length-set}
+use Rattle.std.proofs.Common.{arith, ◌≡◌, ℕ, zero, suc, ◌+◌, ◌-◌, ◌*◌, ◌/◌, ◌%◌, ◌<◌, ◌≤◌, List, [], ◌∷◌, ◌++◌, length, set, get_or, Bool, true, false, Result, Ok, refl, sym, ap, ◌∙◌, subst, append-nil, append_assoc, length-append}
+use Rattle.std.proofs.lemmas.List.{get_or_past, get_or_append_left, get_or-append-add, get_or_read, set-get_or, length-set}
 use Rattle.clause_pages.specs.Pages.{joined, AreFull, AreWhole}
 
 module _ {A : Type 0} where
-  none_more : (xs : List A) → xs ++ [] ≡ xs
-  none_more [] = refl
-  none_more (x ∷ xs) = ap (λ (ys : List A). x ∷ ys) (none_more xs)
-
-  twice : (xs ys zs : List A) → (xs ++ ys) ++ zs ≡ xs ++ (ys ++ zs)
-  twice [] ys zs = refl
-  twice (x ∷ xs) ys zs = ap (λ (r : List A). x ∷ r) (twice xs ys zs)
-
   -- the item with a number stands in its page, at its place there
   at_page : (pages : List (List A)) (q r n : ℕ) (d : A) → n ≡ q * 128 + r → r < 128 → AreFull pages → get_or (joined pages) n d ≡ get_or (get_or pages q []) r d
   at_page [] q r n d e lt h = refl
   at_page (page ∷ []) zero r n d e lt h =
       let same : n ≡ r = omega (arith, e) in
-      ap (λ (xs : List A). get_or xs n d) (none_more page) ∙ ap (λ (m : ℕ). get_or page m d) same
+      ap (λ (xs : List A). get_or xs n d) (append-nil page) ∙ ap (λ (m : ℕ). get_or page m d) same
   at_page (page ∷ []) (suc q) r n d e lt h =
-      ap (λ (xs : List A). get_or xs n d) (none_more page)
+      ap (λ (xs : List A). get_or xs n d) (append-nil page)
       ∙ get_or_past page n d (omega (arith, h, e))
   at_page (page ∷ next ∷ pages) zero r n d e lt h =
       let same : n ≡ r = omega (arith, e) in
@@ -68,8 +60,8 @@ module _ {A : Type 0} where
   -- a number of some page is within it
   in_page : (pages : List (List A)) (q r : ℕ) → r < 128 → q * 128 + r < length (joined pages) → AreFull pages → (q < length pages) × (r < length (get_or pages q []))
   in_page [] q r lt within h = let none : ⊥ = omega (arith, within) in absurd none
-  in_page (page ∷ []) zero r lt within h = let same = ap length (none_more page) in (omega arith, omega (arith, same, within))
-  in_page (page ∷ []) (suc q) r lt within h = let same = ap length (none_more page) in let none : ⊥ = omega (arith, same, within, h) in absurd none
+  in_page (page ∷ []) zero r lt within h = let same = ap length (append-nil page) in (omega arith, omega (arith, same, within))
+  in_page (page ∷ []) (suc q) r lt within h = let same = ap length (append-nil page) in let none : ⊥ = omega (arith, same, within, h) in absurd none
   in_page (page ∷ next ∷ pages) zero r lt within h = (omega arith, omega (arith, h.0, lt))
   in_page (page ∷ next ∷ pages) (suc q) r lt within h =
       let long : length (page ++ joined (next ∷ pages)) ≡ length page + length (joined (next ∷ pages)) = length-append page (joined (next ∷ pages)) in
@@ -98,17 +90,17 @@ module _ {A : Type 0} where
   last_more [] k a e lt h = let none : ⊥ = omega (arith, e) in absurd none
   last_more (page ∷ []) zero a e lt h =
       let long : length (page ++ a ∷ []) ≡ length page + 1 = length-append page (a ∷ []) in
-      (omega (arith, long, lt), none_more (page ++ a ∷ []) ∙ ap (λ (xs : List A). xs ++ a ∷ []) (sym (none_more page)))
+      (omega (arith, long, lt), append-nil (page ++ a ∷ []) ∙ ap (λ (xs : List A). xs ++ a ∷ []) (sym (append-nil page)))
   last_more (page ∷ []) (suc k) a e lt h = let none : ⊥ = omega (arith, e) in absurd none
   last_more (page ∷ next ∷ pages) zero a e lt h = let none : ⊥ = omega (arith, e) in absurd none
   last_more (page ∷ next ∷ []) (suc zero) a e lt h =
       let more = last_more (next ∷ []) zero a (omega arith) lt h.1 in
-      ((h.0, more.0), ap (λ (xs : List A). page ++ xs) more.1 ∙ sym (twice page (joined (next ∷ [])) (a ∷ [])))
+      ((h.0, more.0), ap (λ (xs : List A). page ++ xs) more.1 ∙ sym (append_assoc page (joined (next ∷ [])) (a ∷ [])))
   last_more (page ∷ next ∷ []) (suc (suc k)) a e lt h = let none : ⊥ = omega (arith, e) in absurd none
   last_more (page ∷ next ∷ third ∷ pages) (suc zero) a e lt h = let none : ⊥ = omega (arith, e) in absurd none
   last_more (page ∷ next ∷ third ∷ pages) (suc (suc k)) a e lt h =
       let more = last_more (next ∷ third ∷ pages) (suc k) a (omega (arith, e)) lt h.1 in
-      ((h.0, more.0), ap (λ (xs : List A). page ++ xs) more.1 ∙ sym (twice page (joined (next ∷ third ∷ pages)) (a ∷ [])))
+      ((h.0, more.0), ap (λ (xs : List A). page ++ xs) more.1 ∙ sym (append_assoc page (joined (next ∷ third ∷ pages)) (a ∷ [])))
 
   -- where the last page has no room, none has
   pub last_whole : (pages : List (List A)) (k : ℕ) → k + 1 ≡ length pages → length (get_or pages k []) ≡ 128 → AreFull pages → AreWhole pages
@@ -121,10 +113,10 @@ module _ {A : Type 0} where
   -- one page more, of one item
   pub page_more : (pages : List (List A)) (a : A) → AreWhole pages → AreFull (pages ++ (a ∷ []) ∷ []) × (joined (pages ++ (a ∷ []) ∷ []) ≡ joined pages ++ a ∷ [])
   page_more [] a h = (omega arith, refl)
-  page_more (page ∷ []) a h = ((h.0, omega arith), ap (λ (xs : List A). xs ++ a ∷ []) (sym (none_more page)))
+  page_more (page ∷ []) a h = ((h.0, omega arith), ap (λ (xs : List A). xs ++ a ∷ []) (sym (append-nil page)))
   page_more (page ∷ next ∷ pages) a h =
       let more = page_more (next ∷ pages) a h.1 in
-      ((h.0, more.0), ap (λ (xs : List A). page ++ xs) more.1 ∙ sym (twice page (joined (next ∷ pages)) (a ∷ [])))
+      ((h.0, more.0), ap (λ (xs : List A). page ++ xs) more.1 ∙ sym (append_assoc page (joined (next ∷ pages)) (a ∷ [])))
 
   -- the same, with what is read and written by name
   pub found_at : (pages : List (List A)) (page : List A) (n : ℕ) (d : A) → page ≡ get_or pages (n / 128) [] → AreFull pages → get_or (joined pages) n d ≡ get_or page (n % 128) d
@@ -133,14 +125,24 @@ module _ {A : Type 0} where
   pub found_past : (pages : List (List A)) (n : ℕ) (d : A) → length pages ≤ n / 128 → AreFull pages → get_or (joined pages) n d ≡ d
   found_past pages n d le h = found_in pages n d h ∙ ap (λ (xs : List A). get_or xs (n % 128) d) (get_or_past pages (n / 128) [] le)
 
-  pub last_whole_by : (pages : List (List A)) (k : ℕ) (page : List A) → k + 1 ≡ length pages → page ≡ get_or pages k [] → length page ≡ 128 → AreFull pages → AreWhole (set pages k page)
-  last_whole_by pages k page e p l h =
-      subst AreWhole (sym (ap (λ (xs : List A). set pages k xs) p ∙ set-get_or pages k [])) (last_whole pages k e (ap length (sym p) ∙ l) h)
+  pub found_by : (now : List A) (pages : List (List A)) (page : List A) (n : ℕ) (d : A) → joined pages ≡ now → n / 128 < length pages → page ≡ get_or pages (n / 128) page → AreFull pages → get_or now n d ≡ get_or page (n % 128) d
+  found_by now pages page n d is lt e h = ap (λ (xs : List A). get_or xs n d) (sym is) ∙ found_at pages page n d (get_or_read pages (n / 128) page lt e []) h
 
-  pub last_more_by : (pages : List (List A)) (k : ℕ) (page more : List A) (a : A) → k + 1 ≡ length pages → page ≡ get_or pages k [] → more ≡ page ++ a ∷ [] → length page < 128 → AreFull pages → AreFull (set pages k more) × (joined (set pages k more) ≡ joined pages ++ a ∷ [])
-  last_more_by pages k page more a e p m lt h =
-      let same : get_or pages k [] ++ a ∷ [] ≡ more = sym (m ∙ ap (λ (xs : List A). xs ++ a ∷ []) p) in
-      subst (λ (xs : List A). AreFull (set pages k xs) × (joined (set pages k xs) ≡ joined pages ++ a ∷ [])) same (last_more pages k a e (let l = ap length p in omega (arith, l, lt)) h)
+  -- the last of so many pages, where it has no room, and where it has some and gets one item more
+  module _ (pages : List (List A)) (count : ℕ) (page : List A) (own : count ≡ length pages) (some : count ≡ 0 → ⊥) (e : page ≡ get_or pages (count - 1) page) (h : AreFull pages) where
+    at : page ≡ get_or pages (count - 1) []
+    at = get_or_read pages (count - 1) page (omega (arith, some, own)) e []
+
+    pub last_whole_by : length page ≡ 128 → AreWhole (set pages (count - 1) page)
+    last_whole_by long =
+        subst AreWhole (sym (ap (λ (xs : List A). set pages (count - 1) xs) at ∙ set-get_or pages (count - 1) []))
+        (last_whole pages (count - 1) (omega (arith, some, own)) (ap length (sym at) ∙ long) h)
+
+    pub last_more_by : (more : List A) (a : A) → more ≡ page ++ a ∷ [] → length page < 128 → AreFull (set pages (count - 1) more) × (joined (set pages (count - 1) more) ≡ joined pages ++ a ∷ [])
+    last_more_by more a m lt =
+        let same : get_or pages (count - 1) [] ++ a ∷ [] ≡ more = sym (m ∙ ap (λ (xs : List A). xs ++ a ∷ []) at) in
+        subst (λ (xs : List A). AreFull (set pages (count - 1) xs) × (joined (set pages (count - 1) xs) ≡ joined pages ++ a ∷ [])) same
+        (last_more pages (count - 1) a (omega (arith, some, own)) (let l = ap length at in omega (arith, l, lt)) h)
 
   pub page_more_by : (pages now : List (List A)) (page : List A) (a : A) → AreWhole pages → page ≡ a ∷ [] → now ≡ pages ++ page ∷ [] → AreFull now × (joined now ≡ joined pages ++ a ∷ [])
   page_more_by pages now page a h p n =
