@@ -1,7 +1,7 @@
 """Inputs written for wrong bodies that no row, case or small random task tells: searches of hundreds of conflicts, formulas at the
 limits, certificates that cite what was dropped, large reports, words and files that a row can not give. What is due is what the
 reference says of the same files, or stands here by the rules of the formats."""
-import os, random
+import os, random, re
 
 from bodies import ROOT
 
@@ -309,9 +309,13 @@ def solved(make, count):
         yield make.made(f"aimed solve {at} in pieces", ("solve",), here, b"formula\n" + told + pieces + answer, 0)._replace(fed=fed)
 
 def layers(made, folder):
-    """All runs of layers, with the output that stands beside the program."""
+    """All runs of layers, and each of them, with the output that stands beside the program."""
     crate = ROOT / "crates/layer_runs"
-    yield made("row of layer_runs", ("all",), folder, (crate / "stdout").read_bytes(), 0)._replace(fed=(crate / "stdin").read_bytes(), kind="")
+    fed, whole = (crate / "stdin").read_bytes(), (crate / "stdout").read_bytes()
+    all_of_them = re.search(r'const ALL: &str =\s*"([^"]*)"', (crate / "src/main.rt").read_text())[1]
+    yield made("row of layer_runs", ("all",), folder, whole, 0)._replace(fed=fed, kind="")
+    for words, part in zip(all_of_them.split("|"), re.split(rb"^== .*\n", whole, flags=re.M)[1:]):
+        yield made(f"row of layer_runs, {words}", tuple(words.split()), folder, part, 0)._replace(fed=fed, kind="")
 
 def aimed(made, compare, shared, folder):
     """The inputs that are written for single bodies."""
