@@ -25,7 +25,8 @@ def exact(facts, sizes):
     """The domain and the problem of such a task, whose goal is never reached."""
     names = [f"g{it}" for it in range(facts)]
     kept = " ".join(f"(:action s{it} :effect ({it})) (:action u{it} :effect (not ({it})))" for it in names)
-    long = " ".join(f"(:action b{at} :precondition (and {' '.join(f'({it})' for it in names[:size])}) :effect (h))" for at, size in enumerate(sizes))
+    wanted = [" ".join(f"({it})" for it in names[:size]) for size in sizes]
+    long = " ".join(f"(:action b{at} :precondition (and {it}) :effect (h))" for at, it in enumerate(wanted))
     return f"(define (domain d) (:predicates {' '.join(f'({it})' for it in [*names, 'h', 'z'])}) {kept} {long})", "(define (problem p) (:goal (z)))"
 
 def with_more(domain, more=215, facts=40):
@@ -78,7 +79,7 @@ def searches(make, tasks):
         domain, problem, _ = tasks[name]
         files = {"d": domain, "p": problem}
         yield make.input(f"prove {name} {horizon}", ["prove", "d", "p", horizon, "--budget", "4000"], files)
-        options = [["--alg", "a", "--width", "2"], ["--alg", "b", "--width", "5", "--percent", "70"], ["--alg", "c", "--growth", "130", "--quota", "20"]][at % 3]
+        options = "--alg a --width 2|--alg b --width 5 --percent 70|--alg c --growth 130 --quota 20".split("|")[at % 3].split()
         words = ["d", "p", "--max-horizon", horizon, "--budget", "600", *options]
         yield make.input(f"plan {name} to {horizon}", ["plan", *words], files)
         yield make.input(f"plan-all {name} to {horizon}", ["plan-all", *words], files)
@@ -161,7 +162,8 @@ def told_to_judge(text, clauses, gap):
         else:
             clause, hints = line[5:].split(b" by")
             ids.append(ids[-1] + gap)
-            lines.append(b" ".join([b"%d" % ids[-1], *(literal(int(it)) for it in clause.split()), b"0", *(b"%d" % ids[int(it)] for it in hints.split()), b"0"]))
+            lits, by = [literal(int(it)) for it in clause.split()], [b"%d" % ids[int(it)] for it in hints.split()]
+            lines.append(b" ".join([b"%d" % ids[-1], *lits, b"0", *by, b"0"]))
     return lines
 
 def judged(make, tasks, compare):
@@ -177,7 +179,8 @@ def judged(make, tasks, compare):
         for gap in (1, 3):
             lines = told_to_judge(text, clauses, gap)
             words = ["judge", "d", "p", horizon, "c"]
-            yield make.input(f"judge {name} {horizon}", words, files | {"c": b"\n".join(lines) + b"\n"}, due=(b"; refuted horizon %s entries %d\n" % (horizon.encode(), len(lines)), 0))
+            refuted = b"; refuted horizon %s entries %d\n" % (horizon.encode(), len(lines))
+            yield make.input(f"judge {name} {horizon}", words, files | {"c": b"\n".join(lines) + b"\n"}, due=(refuted, 0))
             yield make.input(f"judge {name} {horizon} cut", words, files | {"c": b"\n".join(lines[:-1]) + b"\n"}, due=(b"; not empty\n", 1))
             drops = [at for at, it in enumerate(lines) if b" d " in it]
             for at in luck.sample(drops, min(len(drops), 3)):
@@ -272,8 +275,9 @@ def formulas(make, tasks):
                     yield make.made(f"compare formula of {name}", ("formula", "d", "p", horizon, *(["--steps", "all"] if kind else [])), here, *due)
     domain, problem = long_clause(1100)
     here = make.room({"d": domain, "p": problem})
-    yield make.made("compare formula with a clause of over 1,000 literals", ("formula", "d", "p", "2"), here, *without_comments(make.told(["dimacs", "d", "p", "2"], here)))
-    yield make.made("compare formula of over 100,000 clauses", ("formula", "d", "p", "20"), here, *without_comments(make.told(["dimacs", "d", "p", "20"], here)))
+    for horizon, shows in (("2", "with a clause of over 1,000 literals"), ("20", "of over 100,000 clauses")):
+        due = without_comments(make.told(["dimacs", "d", "p", horizon], here))
+        yield make.made(f"compare formula {shows}", ("formula", "d", "p", horizon), here, *due)
     for shows, facts, sizes, count in EXACT_OF_JUDGE:
         domain, problem = exact(facts, sizes)
         yield make.input(shows, ["formula", "d", "p", "255"], {"d": domain, "p": problem}, due=(b"; limit literals %d horizon 255\n" % count, 4))

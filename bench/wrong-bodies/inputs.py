@@ -21,7 +21,7 @@ WANTING = [
     (PLANNER, "order d p", "briefcaseworld/p01"), (PLANNER, "ground d p", "briefcaseworld/p01"), (PLANNER, "check d p l", "gripper/p04"),
     (PLANNER, "verify d p c", "gripper/p05"), (JUDGE, "formula d p 3", "gripper/p04"), (JUDGE, "formula d p 2 --steps all", "gripper/p04"),
 ]
-MOST_REFUSED = 1 << 24
+MOST_REFUSED = 24
 
 class Input(NamedTuple):
     """A run of the program: what shows it, the words, the folder, what is due on its output and as its status, how many bytes it may
@@ -168,10 +168,9 @@ def compared(shared, group, count, folder):
         yield Input(f"compare {group}", tuple(words), here, due, status, kind=JUDGE if group == "formula" else PLANNER)
 
 def greatest_refused(run, program):
-    """The greatest number of an allocation without which a run tells of want of memory, from below."""
-    low, high = 0, 1
-    while high < MOST_REFUSED and run._replace(refused=high).ended(program, 0) == (b"", 8):
-        low, high = high, 2 * high
+    """About the greatest number of an allocation without which a run tells of want of memory; some of the first have no effect."""
+    low = max((1 << it for it in range(MOST_REFUSED) if run._replace(refused=1 << it).ended(program, 0) == (b"", 8)), default=0)
+    high = 2 * low
     while low + 1 < high:
         middle = (low + high) // 2
         low, high = (middle, high) if run._replace(refused=middle).ended(program, 0) == (b"", 8) else (low, middle)
