@@ -8,6 +8,7 @@ use Rattle.propagation.specs.Pending.{is_free}
 -- the length of the longest prefix of a trail in which a literal is not false, which is at most the number of variables
 pub record IsFreeUntil (trail : List ℕ) (l variables until : ℕ) : Type 0 where
   pub lasts : (n : ℕ) → n ≤ length trail → is_free (has_literal (take n trail)) l ≡ nat_le n until
+  pub within : until ≤ length trail
   pub short : until ≤ variables
 
 -- two places of a clause: of its first so many literals the one at the first place is not false for longest, and of the others that

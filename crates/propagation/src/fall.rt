@@ -11,6 +11,7 @@ use clause_base::literal::Lit;
 pub fn free_until(assignment: &Assignment, code: u32) -> u32
     requires { code < 2 * assignment.now.variables }
     ensures lasts { (n : ℕ) → n ≤ length assignment.now.trail → is_free (has_literal (take n assignment.now.trail)) code ≡ nat_le n result }
+    ensures within { result ≤ length assignment.now.trail }
     ensures short { result ≤ assignment.now.variables }
 {
     let length = assignment.length();

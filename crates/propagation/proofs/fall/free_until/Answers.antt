@@ -6,6 +6,12 @@ pub returns-then-is_false-clause-lasts : goal.returns-then-is_false-clause-lasts
 returns-then-is_false-clause-lasts c n h =
     free_until_place c.args.assignment.now.trail c.args.code c.position.result n (c.position.ensures.falsified (sym c.is_false.ensures ∙ c.if-is_false.true) n h)
 
+pub returns-then-is_false-clause-within : goal.returns-then-is_false-clause-within
+returns-then-is_false-clause-within c =
+    let f = sym c.is_false.ensures ∙ c.if-is_false.true in
+    let p = place_before c.args.assignment.now.trail c.args.code c.position.result f (c.position.ensures.falsified f) in
+    omega (arith, p)
+
 pub returns-then-is_false-clause-short : goal.returns-then-is_false-clause-short
 returns-then-is_false-clause-short c =
     let f = sym c.is_false.ensures ∙ c.if-is_false.true in
