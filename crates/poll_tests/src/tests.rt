@@ -2,5 +2,6 @@
 mod batches;
 mod horizons;
 mod lamps;
+mod noted;
 mod polls;
 mod seen;

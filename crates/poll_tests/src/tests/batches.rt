@@ -29,7 +29,7 @@ const HORIZON_0: Rates = Rates {
 };
 
 /// The race of horizon 0 over a form, polled by slices of 10.
-fn race_of<'a, F: StepForm>(
+pub(crate) fn race_of<'a, F: StepForm>(
     rt: &impl Abort,
     alloc: Global,
     task: &'a Task,
@@ -44,7 +44,7 @@ fn race_of<'a, F: StepForm>(
 }
 
 /// Two races in a row.
-fn two_of<'a, F: StepForm>(
+pub(crate) fn two_of<'a, F: StepForm>(
     rt: &impl Abort,
     alloc: Global,
     first: PollRace<'a, F>,
@@ -107,7 +107,7 @@ fn are_ended(ends: &[Result<RaceEnd, RaceError>]) -> bool {
 }
 
 /// Two races end so.
-fn end_over<F: StepForm + Sync, D: Driver, H: Threads + Wait + Sync + Abort>(
+pub(crate) fn end_over<F: StepForm + Sync, D: Driver, H: Threads + Wait + Sync + Abort>(
     rt: &H,
     alloc: Global,
     driver: &mut D,
