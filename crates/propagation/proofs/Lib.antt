@@ -17,3 +17,4 @@ pub mod Scans
 pub mod Fronts
 pub mod Givens
 pub mod Templates
+pub mod Knowns
