@@ -18,3 +18,4 @@ pub mod Scans
 pub mod Fronts
 pub mod Givens
 pub mod Templates
+pub mod Knowns
