@@ -9,7 +9,7 @@ impl Resume for AheadRun {
     ghost use Rattle.std.specs.Prelude.{refl};
     ghost use Rattle.horizon_run.specs.Resume.{origin, moved_by, still, goes};
 
-    ghost horizon_of = { λ r. r.formula.name };
+    ghost key_of = { λ r. r.formula.name };
 
     ghost granted_of = { λ r. r.granted };
 
