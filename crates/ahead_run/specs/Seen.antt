@@ -3,11 +3,11 @@ use Rattle.std.specs.Prelude.{◌≡◌, ℕ, false, ◌≤◌, if◌then◌else
 use Rattle.cdcl_rules.specs.declared.standing.Standing.TheVariants.{Going}
 use Rattle.horizon_run.specs.Run.{RunView, moved_to}
 
--- a run where so many granted conflicts have it, whatever its solver handled beyond them; a spoilt one as it is
+-- a run where so many granted conflicts have it, whatever its solver handled beyond them; a spoilt one as its solver is, with these grants
 abbrev pub seen_of : RunView → ℕ → RunView
 seen_of r granted = if r.spoilt then record r { granted = granted } else moved_to r granted
 
--- the granted conflicts lead to a state that goes on and has handled all of them
+-- a run is not spoilt, and the granted conflicts, at most 2^30, lead to a state that goes on and has handled all of them
 pub record IsBehind (r : RunView) (granted : ℕ) : Type 0 where
   pub sane : r.spoilt ≡ false
   pub going : (seen_of r granted).state.standing ≡ Going

@@ -49,7 +49,7 @@ impl BitRow {
         grow(&mut self.words, bound.div_ceil(64))
     }
 
-    /// Whether there is no room, so that no number is in the set.
+    /// True only where there is no room, so that no number is in the set; what false means is not said.
     pub fn is_without_room(&self) -> bool
         ensures { OnTrue result ((k : ℕ) → row_has self.now k ≡ false) }
     {
@@ -99,14 +99,14 @@ impl BitRow {
         self.words.extend_from_slice(other.words.as_slice())
     }
 
-    /// Whether it is the same as another, with the same room.
+    /// True only where it is the same as another, with the same room; what false means is not said.
     pub fn is_same(&self, other: &BitRow) -> bool
         ensures { OnTrue result (self.now ≡ other.now) }
     {
         self.words.as_slice() == other.words.as_slice()
     }
 
-    /// Whether each number of the set is in another.
+    /// True only where each number of the set is in another; what false means is not said.
     pub fn is_part_of(&self, other: &BitRow) -> bool
         ensures { OnTrue result ((k : ℕ) → row_has self.now k ≡ true → row_has other.now k ≡ true) }
     {
@@ -278,7 +278,7 @@ fn subtract_words(words: &mut [u64], others: &[u64])
     }
 }
 
-/// Whether all words from a place on are zero.
+/// True only where all words from a place on are zero.
 fn are_zero(words: &[u64], from: usize) -> bool
     ensures { OnTrue result ((k : ℕ) → from ≤ k / 64 → row_has words.now k ≡ false) }
 {
@@ -290,7 +290,7 @@ fn are_zero(words: &[u64], from: usize) -> bool
     true
 }
 
-/// Whether no bit of words is missing in others, up to a place.
+/// True only where no bit of words is missing in others, up to a place.
 fn is_part_below(words: &[u64], others: &[u64], end: usize) -> bool
     requires words { end ≤ length words.now }
     requires others { end ≤ length others.now }
