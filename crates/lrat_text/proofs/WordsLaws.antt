@@ -58,7 +58,7 @@ front_no_blank (c ∷ bytes) b more e = by (front_no_blank bytes b more) (is_bla
 
 -- ---- digits
 
-digit_no_blank : (b : ℕ) → is_ascii_digit b ≡ true → is_blank b ≡ false
+pub digit_no_blank : (b : ℕ) → is_ascii_digit b ≡ true → is_blank b ≡ false
 digit_no_blank b e = grind (arith, nat_tests)
 
 -- the digits at the front are the word where the word ends after them
