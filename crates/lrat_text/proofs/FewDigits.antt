@@ -1,5 +1,5 @@
 -- Numbers of few digits, whose digits are found at once.
-use Rattle.std.proofs.Common.{◌≡◌, ◌∙◌, ◌<◌, ◌≤◌, ◌+◌, ◌-◌, ◌%◌, ◌^◌, not, ℕ, zero, suc, Bool, true, false, cond, leb, List, [], ◌∷◌, length, map, take, drop, get_or, replicate, Option, Some, None, option_map, refl, sym, ap, ap₂, arith, w8, Fits}
+use Rattle.std.proofs.Common.{◌≡◌, ◌∙◌, ◌<◌, ◌≤◌, ◌+◌, ◌-◌, ◌%◌, ◌^◌, not, ℕ, zero, suc, Bool, true, false, cond, leb, List, [], ◌∷◌, length, map, take, drop, get_or, replicate, Some, None, option_map, refl, sym, ap, ap₂, arith, w8, Fits}
 use Rattle.std.specs.Char.{is_ascii_digit}
 use Rattle.std.specs.List.{prefix_len, list_all}
 use Rattle.std.specs.Simd.Lanes.{mask_l, top, zip2, Each1}
@@ -10,8 +10,8 @@ use Rattle.std.proofs.lemmas.List.Folds.{length-prefix_len}
 use Rattle.std.proofs.lemmas.Bool.{le-leb, lt-leb, leb-true, leb-false}
 use Rattle.std.proofs.lemmas.Bool.Decides.{nat_tests}
 use lib.Count.{count_trailing_zeros}
-use Rattle.lrat_text.specs.Words.{is_blank, words_of, value_of, is_natural, natural_of, first_number}
-use Rattle.lrat_text.specs.Cut.{is_other, after_blanks, digits_front, after_digits, word_front, after_word, ends_word}
+use Rattle.lrat_text.specs.Words.{words_of, value_of, is_natural, natural_of, first_number}
+use Rattle.lrat_text.specs.Cut.{is_other, after_blanks, digits_front, after_digits, ends_word}
 use Rattle.lrat_text.specs.declared.words.Signed.{Signed}
 use Rattle.lrat_text.proofs.WordsLaws.{digit_no_blank, natural_some, front_all_digits, first_digit, natural_front, front_is_digits, plain_number, plain_after, words_after_blanks}
 

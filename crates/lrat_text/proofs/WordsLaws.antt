@@ -1,5 +1,5 @@
 -- The words of a line, from its front.
-use Rattle.std.proofs.Common.{◌≡◌, ◌==◌, ◌&&◌, ◌||◌, ◌<◌, ◌≤◌, ◌+◌, ◌*◌, ◌-◌, not, ℕ, List, [], ◌∷◌, ◌++◌, length, get_or, filter, drop, Bool, true, false, Option, Some, None, option_map, refl, sym, ap, ◌∙◌, subst, arith, inl, inr}
+use Rattle.std.proofs.Common.{◌≡◌, ◌==◌, ◌||◌, ◌<◌, ◌≤◌, ◌+◌, ◌*◌, ◌-◌, not, ℕ, List, [], ◌∷◌, length, get_or, filter, drop, Bool, true, false, Some, None, option_map, refl, sym, ap, ◌∙◌, subst, arith, inl, inr}
 use Rattle.std.specs.Prelude.{nat_lt, option_and_then, codes}
 use Rattle.std.specs.Char.{is_ascii_digit}
 use Rattle.std.specs.List.{slice_split, onto_first, list_all}

@@ -1,5 +1,5 @@
-//! Numbers of at most seven digits, which are read at once. Most numbers of a proof are such, and how many digits one has cannot
-//! be foretold: a loop over them costs a wrong guess of the processor a number.
+//! Numbers of at most seven digits, which are read at once: how many digits there are is found without a loop, whose end the
+//! processor would have to guess. Most numbers of a proof are such.
 ghost use Rattle.std.specs.Prelude.{◌≡◌, ◌<◌, ◌≤◌, ◌∷◌, ℕ, List, true, map, take, length, IfSome, Some};
 ghost use Rattle.std.specs.Char.{is_ascii_digit};
 ghost use Rattle.std.specs.List.{prefix_len, list_all};

@@ -1,4 +1,4 @@
-use Rattle.std.proofs.Common.{◌≡◌, ◌∙◌, ◌<◌, ℕ, List, false, drop, length, sym, ap, subst}
+use Rattle.std.proofs.Common.{◌∙◌, ◌<◌, ℕ, List, false, drop, length, sym, ap, subst}
 use Rattle.lrat_text.specs.Words.{first_number}
 use Rattle.lrat_text.proofs.FewDigits.{short_first, short_passed}
 use Rattle.lrat_text.proofs.WordsLaws.{fewer_words}
