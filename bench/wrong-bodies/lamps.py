@@ -3,9 +3,12 @@
 import re
 
 LONG = " " * 1_048_576
-LAMP = "(define (domain l) (:requirements :negative-preconditions) (:predicates (on) (z)) (:action flip :precondition (not (on)) :effect (on)))"
+LAMP = ("(define (domain l) (:requirements :negative-preconditions) (:predicates (on) (z)) "
+        "(:action flip :precondition (not (on)) :effect (on)))")
 WITH_HUM = LAMP.replace("(z))", "(h)) (:action hum :effect (h))")
-OFF, ON, NEVER = "(define (problem q) (:domain l) (:goal (on)))", "(define (problem q) (:domain l) (:init (on)) (:goal (on)))", "(define (problem q) (:domain l) (:goal (z)))"
+OFF = "(define (problem q) (:domain l) (:goal (on)))"
+ON = "(define (problem q) (:domain l) (:init (on)) (:goal (on)))"
+NEVER = "(define (problem q) (:domain l) (:goal (z)))"
 TASKS = ("gripper/p04 4", "pegsol/p03 7", "openstacks/p03 7")
 
 def proofs(make):
@@ -24,7 +27,8 @@ def as_many(make, tasks):
     for name, most in (it.split() for it in TASKS):
         domain, problem, _ = tasks[name]
         files = {"d": domain, "p": problem}
-        told, _ = make.told(["plan", "d", "p", "--max-horizon", most, "--budget", "4000", "--alg", "a", "--width", "1"], make.room(files))
+        words = ["plan", "d", "p", "--max-horizon", most, "--budget", "4000", "--alg", "a", "--width", "1"]
+        told, _ = make.told(words, make.room(files))
         for horizon, conflicts in re.findall(rb"; horizon (\d+) refuted conflicts (\d+)", told):
             words = ["prove", "d", "p", horizon.decode(), "--budget", conflicts.decode()]
             yield make.input(f"prove by as many conflicts as plan took, {name} {horizon.decode()}", words, files)
