@@ -36,8 +36,11 @@ def as_many(make, tasks):
 def checks(make):
     """Plans of a lamp: none, one that runs, one that is blocked, and two calls in a task whose goal holds at first."""
     for shows, domain, problem, calls in [
-        ("check of no call", LAMP, ON, ""), ("check of one call", LAMP, OFF, "(flip)\n"), ("check of a call that is blocked", LAMP, ON, "(flip)\n"),
-        ("check of a last call that is blocked", LAMP, OFF, "(flip)\n(flip)\n"), ("check of two calls whose goal holds at first", WITH_HUM, ON, "(hum)\n(hum)\n"),
+        ("check of no call", LAMP, ON, ""),
+        ("check of one call", LAMP, OFF, "(flip)\n"),
+        ("check of a call that is blocked", LAMP, ON, "(flip)\n"),
+        ("check of a last call that is blocked", LAMP, OFF, "(flip)\n(flip)\n"),
+        ("check of two calls whose goal holds at first", WITH_HUM, ON, "(hum)\n(hum)\n"),
     ]:
         yield make.input(shows, ["check", "d", "p", "l"], {"d": domain, "p": problem, "l": calls})
 
