@@ -4,6 +4,7 @@ reference says of the same files, or stands here by the rules of the formats."""
 import os, random, re
 
 from bodies import ROOT
+from lamps import by_clauses
 
 # Tasks of the corpus with a horizon that has no plan, which a search refutes by so many conflicts, from some twenty to a thousand.
 REFUTED = """
@@ -330,6 +331,7 @@ def aimed(made, compare, shared, folder):
     yield from searches(make, tasks)
     yield from certificates(make, tasks, compare)
     yield from limits(make, compare, 40)
+    yield from by_clauses(make, tasks, exact(*EXACT[1][1:3]))
     for it in solved(make, 80):
         yield it._replace(kind="")
     for it in (*small_proofs(make), *judged(make, tasks, compare), *models(make), *formulas(make, tasks)):
