@@ -1,4 +1,4 @@
-use Rattle.std.proofs.Common.{◌≡◌, ◌∙◌, ◌*◌, ◌<◌, ◌==◌, ◌&&◌, ◌||◌, ap, sym, subst, true, false, not, length, Bool, ℕ, List}
+use Rattle.std.proofs.Common.{◌≡◌, ◌∙◌, ◌*◌, ◌<◌, ◌==◌, ◌&&◌, ◌||◌, ap, sym, subst, true, not, length, Bool, ℕ, List}
 use Rattle.std.specs.List.{AllByRecursion, list_all}
 use Rattle.bit_sets.specs.Rows.{row_has, IsPairAcross}
 use Rattle.gt_core.specs.Literal.{opposite}
