@@ -6,7 +6,7 @@ ghost use Rattle.bit_sets.specs.Layered.{words_have};
 ghost use Rattle.clause_store.specs.Pairs.{IsPairOf, pairs_of};
 ghost use Rattle.clause_store.specs.declared.origin.Origin.TheVariants.{Time};
 ghost use Rattle.propagation.specs.Asks.{HasAsks};
-ghost use Rattle.propagation.specs.Pairs.{AreMarked, ArePairsOf};
+ghost use Rattle.propagation.specs.Pairs.{AreAllMarked, AreListed, AreMarked, ArePairsOf};
 ghost use Rattle.propagation.specs.Visit.{Grows, IsFit};
 
 use crate::pending::Pending;
@@ -94,37 +94,18 @@ fn mark_fact(
     requires fit { IsFit store.now (2 * assignment.now.variables) }
     requires falsified { has_literal assignment.now.trail (opposite falsified) ≡ true }
     requires origin { lists.now.origin ≡ Time time fact }
-    requires last { ArePairsOf store.now falsified lists.now.last }
-    requires next { ArePairsOf store.now falsified lists.now.next }
-    requires time { ArePairsOf store.now falsified lists.now.time }
+    requires listed { AreListed store.now falsified lists.now }
     requires asks { HasAsks store.now assignment.now.trail pending.old }
-    ensures last { AreMarked assignment.now.trail lists.now.last pending.new }
-    ensures next { AreMarked assignment.now.trail lists.now.next pending.new }
-    ensures time { AreMarked assignment.now.trail lists.now.time pending.new }
+    ensures in_set { AreAllMarked assignment.now.trail lists.now pending.new }
     ensures grows { Grows (words_have pending.old.numbers) (words_have pending.new.numbers) }
     ensures asks { HasAsks store.now assignment.now.trail pending.new }
 {
-    mark_list(
-        store,
-        lists.last(time, fact),
-        assignment,
-        falsified,
-        pending,
-    );
-    mark_list(
-        store,
-        lists.next(time, fact),
-        assignment,
-        falsified,
-        pending,
-    );
-    mark_list(
-        store,
-        lists.time(time, fact),
-        assignment,
-        falsified,
-        pending,
-    );
+    let ending = lists.last(time, fact);
+    mark_list(store, ending, assignment, falsified, pending);
+    let beginning = lists.next(time, fact);
+    mark_list(store, beginning, assignment, falsified, pending);
+    let same = lists.time(time, fact);
+    mark_list(store, same, assignment, falsified, pending);
 }
 
 /// Puts the clauses of steps and times of two literals of a false literal into the set whose other literal is not true. Of which
@@ -139,13 +120,9 @@ fn mark_repeated(
 )
     requires fit { IsFit store.now (2 * assignment.now.variables) }
     requires falsified { has_literal assignment.now.trail (opposite falsified) ≡ true }
-    requires last { ArePairsOf store.now falsified lists.now.last }
-    requires next { ArePairsOf store.now falsified lists.now.next }
-    requires time { ArePairsOf store.now falsified lists.now.time }
+    requires listed { AreListed store.now falsified lists.now }
     requires asks { HasAsks store.now assignment.now.trail pending.old }
-    ensures last { AreMarked assignment.now.trail lists.now.last pending.new }
-    ensures next { AreMarked assignment.now.trail lists.now.next pending.new }
-    ensures time { AreMarked assignment.now.trail lists.now.time pending.new }
+    ensures in_set { AreAllMarked assignment.now.trail lists.now pending.new }
     ensures grows { Grows (words_have pending.old.numbers) (words_have pending.new.numbers) }
     ensures asks { HasAsks store.now assignment.now.trail pending.new }
 {

@@ -161,6 +161,7 @@ impl Propagator {
     }
 
     /// Makes a literal true whose variable has no value. It takes no memory.
+    #[inline(always)]
     pub fn assign(&mut self, entry: Assigned)
         requires below { entry.literal < 2 * self.old.variables }
         requires opened { value_of self.old.entries (entry.literal / 2) ≡ None }
@@ -170,6 +171,9 @@ impl Propagator {
         let length = self.trail.length();
         let least = self.lists.pending.numbers.least();
         self.quiet[length as usize] = least.is_none();
+        // The clause that forces the literal is the least one, and is pending no more. Without it the set is mostly empty, so that the
+        // next one that enters is the least.
+        self.lists.pending.take_asking(entry.literal);
         self.trail.push(entry);
         let assignment = self.trail.assignment();
         mark_pairs(
