@@ -179,8 +179,8 @@ impl Propagator {
         mark_pairs(
             &self.tables.store,
             &self.pairs,
-            &assignment,
             falsified.0,
+            &assignment,
             &mut self.lists.pending,
         );
         self.lists.visit_all(&self.tables, &assignment, falsified.0);
