@@ -1,7 +1,7 @@
 // Effects.
-use crate::{Memory, Pattern, Sameness, SharedConds, SharedTypeNumbers};
+use crate::{Pattern, Sameness, SharedConds, SharedTypeNumbers};
 use containers::let_go;
-use std::alloc::Global;
+use std::alloc::{AllocError, Global};
 use std::marker::Model;
 
 /// One literal that an action adds or deletes, where its condition holds before the action: once for each
@@ -62,8 +62,8 @@ impl Effects {
     }
 
     /// Adds an effect at the end, with what it shares with the one before it. The first one has no variables and no condition
-    /// before it. After `Memory` the effects are as they were.
-    pub fn push(&mut self, effect: Effect, same: Sameness) -> Result<(), Memory>
+    /// before it. After `AllocError` the effects are as they were.
+    pub fn push(&mut self, effect: Effect, same: Sameness) -> Result<(), AllocError>
         requires { IsSame (last_under no_under self.old) (under_of effect) same }
         ensures ok { OnOk result (self.new ≡ self.old ++ effect ∷ []) }
         ensures err { OnErr result (self.new ≡ self.old) }

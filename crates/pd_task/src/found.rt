@@ -59,9 +59,7 @@ impl Found {
             atom,
             adds,
         };
-        if self.effects.push(effect, self.same).is_err() {
-            return Err(ReadError::Memory);
-        }
+        self.effects.push(effect, self.same)?;
         self.same = Sameness {
             over: true,
             cond: true,
