@@ -10,3 +10,4 @@ pub mod TypeWalk
 pub mod Rooted
 pub mod LineLaw
 pub mod Reading
+pub mod Marks

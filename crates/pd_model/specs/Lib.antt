@@ -14,3 +14,4 @@ pub mod Exec
 pub mod Plan
 pub mod Follows
 pub mod Few
+pub mod Sameness

@@ -4,6 +4,7 @@ use Rattle.std.specs.Prelude.{OnOk, IsErrAnd}
 use Rattle.std.proofs.lemmas.List.{take-append-le}
 use Rattle.pd_words.specs.declared.keyword.Keyword.{Keyword}
 use Rattle.pd_sexp.specs.Tree as defs
+use Rattle.pd_model.specs.declared.conds.Cond.{Cond}
 use Rattle.pd_model.specs.declared.effects.Effect.{Effect}
 use Rattle.pd_words.specs.declared.fault.Fault.{Fault}
 use Rattle.pd_words.specs.declared.fault.Fault.TheVariants as faults
@@ -30,25 +31,25 @@ forall_is types site before at head rest tree is is-forall = rw is (forall_at ty
 
 -- ---- the variables come into scope
 
-module _ (types : List (List ℕ)) (vocabulary : Vocabulary) (scope : Standing) (before : List Effect) (at : ℕ) where
-  opens : (items : defs.Trees) → quantified types (site_of vocabulary scope []) before at items ≡ (opened types scope at items >>= λ o. quantified_body types (site_of vocabulary o.0 []) before at (defs.and_tree o.1 o.2))
+module _ (types : List (List ℕ)) (vocabulary : Vocabulary) (scope : Standing) (cond : List Cond) (before : List Effect) (at : ℕ) where
+  opens : (items : defs.Trees) → quantified types (site_of vocabulary scope cond) before at items ≡ (opened types scope at items >>= λ o. quantified_body types (site_of vocabulary o.0 cond) before at (defs.and_tree o.1 o.2))
   opens defs.no_trees = refl
   opens (defs.and_tree vars defs.no_trees) = by_list (variable_list types vars) refl
     where
-      by_list : (r : Result Variables Fault) → variable_list types vars ≡ r → quantified types (site_of vocabulary scope []) before at (defs.and_tree vars defs.no_trees) ≡ (opened types scope at (defs.and_tree vars defs.no_trees) >>= λ o. quantified_body types (site_of vocabulary o.0 []) before at (defs.and_tree o.1 o.2))
+      by_list : (r : Result Variables Fault) → variable_list types vars ≡ r → quantified types (site_of vocabulary scope cond) before at (defs.and_tree vars defs.no_trees) ≡ (opened types scope at (defs.and_tree vars defs.no_trees) >>= λ o. quantified_body types (site_of vocabulary o.0 cond) before at (defs.and_tree o.1 o.2))
       by_list (Ok new) here = rw here refl
       by_list (Err e) here = rw here refl
   opens (defs.and_tree vars (defs.and_tree body more)) = by_list (variable_list types vars) refl
     where
-      by_list : (r : Result Variables Fault) → variable_list types vars ≡ r → quantified types (site_of vocabulary scope []) before at (defs.and_tree vars (defs.and_tree body more)) ≡ (opened types scope at (defs.and_tree vars (defs.and_tree body more)) >>= λ o. quantified_body types (site_of vocabulary o.0 []) before at (defs.and_tree o.1 o.2))
+      by_list : (r : Result Variables Fault) → variable_list types vars ≡ r → quantified types (site_of vocabulary scope cond) before at (defs.and_tree vars (defs.and_tree body more)) ≡ (opened types scope at (defs.and_tree vars (defs.and_tree body more)) >>= λ o. quantified_body types (site_of vocabulary o.0 cond) before at (defs.and_tree o.1 o.2))
       by_list (Ok new) here = rw here refl
       by_list (Err e) here = rw here refl
 
   pub enters : (items : defs.Trees) (next : Standing) (body : defs.Tree) (more : defs.Trees) → opened types scope at items ≡ Ok (next, body, more)
-      → quantified types (site_of vocabulary scope []) before at items ≡ quantified_body types (site_of vocabulary next []) before at (defs.and_tree body more)
+      → quantified types (site_of vocabulary scope cond) before at items ≡ quantified_body types (site_of vocabulary next cond) before at (defs.and_tree body more)
   enters items next body more is = opens items ∙ rw is refl
 
-  pub enter_fails : (items : defs.Trees) (e : ReadError) → Fails e (opened types scope at items) → Fails e (quantified types (site_of vocabulary scope []) before at items)
+  pub enter_fails : (items : defs.Trees) (e : ReadError) → Fails e (opened types scope at items) → Fails e (quantified types (site_of vocabulary scope cond) before at items)
   enter_fails items errors.Memory is = tt
   enter_fails items (errors.Fault f) is = opens items ∙ rw is refl
 
@@ -65,18 +66,18 @@ body_ends types site before es at body more (Ok u) is h = rw (is, h) refl
 body_ends types site before es at body more (Err errors.Memory) is h = tt
 body_ends types site before es at body more (Err (errors.Fault f)) is h = rw (is, h) refl
 
-module _ (types : List (List ℕ)) (vocabulary : Vocabulary) (scope next : Standing) (before : List Effect) (at : ℕ) (head : defs.Tree) (items : defs.Trees) (tree body : defs.Tree) (more : defs.Trees)
+module _ (types : List (List ℕ)) (vocabulary : Vocabulary) (scope next : Standing) (cond : List Cond) (before : List Effect) (at : ℕ) (head : defs.Tree) (items : defs.Trees) (tree body : defs.Tree) (more : defs.Trees)
     (is : tree ≡ defs.list at (defs.and_tree head items)) (is-forall : head_of head ≡ heads.Forall) (opens : opened types scope at items ≡ Ok (next, body, more)) where
-  body_is : effect types (site_of vocabulary scope []) before tree ≡ quantified_body types (site_of vocabulary next []) before at (defs.and_tree body more)
-  body_is = forall_is types (site_of vocabulary scope []) before at head items tree is is-forall ∙ enters types vocabulary scope before at items next body more opens
+  body_is : effect types (site_of vocabulary scope cond) before tree ≡ quantified_body types (site_of vocabulary next cond) before at (defs.and_tree body more)
+  body_is = forall_is types (site_of vocabulary scope cond) before at head items tree is is-forall ∙ enters types vocabulary scope cond before at items next body more opens
 
-  pub forall_fails : (new : List Effect) (e : ReadError) (r : Result (Unit {0}) ReadError) → Fails e (effect types (site_of vocabulary next []) before body) → IsErrAnd r (λ y. y ≡ e)
-      → Leaves (effect types (site_of vocabulary scope []) before tree) new r
-  forall_fails new e r fails err = handed_on _ (λ _. new) e r (rw body_is (body_fails types (site_of vocabulary next []) before at body more e fails)) err
+  pub forall_fails : (new : List Effect) (e : ReadError) (r : Result (Unit {0}) ReadError) → Fails e (effect types (site_of vocabulary next cond) before body) → IsErrAnd r (λ y. y ≡ e)
+      → Leaves (effect types (site_of vocabulary scope cond) before tree) new r
+  forall_fails new e r fails err = handed_on _ (λ _. new) e r (rw body_is (body_fails types (site_of vocabulary next cond) before at body more e fails)) err
 
-  pub forall_ends : (es : List Effect) (r : Result (Unit {0}) ReadError) → effect types (site_of vocabulary next []) before body ≡ Ok es → Gives (no_more more) r
-      → Leaves (effect types (site_of vocabulary scope []) before tree) es r
-  forall_ends es r read ends = rw body_is (body_ends types (site_of vocabulary next []) before es at body more r read ends)
+  pub forall_ends : (es : List Effect) (r : Result (Unit {0}) ReadError) → effect types (site_of vocabulary next cond) before body ≡ Ok es → Gives (no_more more) r
+      → Leaves (effect types (site_of vocabulary scope cond) before tree) es r
+  forall_ends es r read ends = rw body_is (body_ends types (site_of vocabulary next cond) before es at body more r read ends)
 
 -- ---- the variables go out of scope
 

@@ -4,6 +4,7 @@ pub mod Action
 pub mod Declarations
 pub mod Reading
 pub mod Scope
+pub mod Found
 pub mod Headed
 pub mod KeyValues
 pub mod Tables

@@ -11,8 +11,9 @@ ghost use Rattle.pd_task.specs.KeyValues.{keys_of};
 
 use crate::cond::read_cond;
 use crate::effects::read_effect;
+use crate::found::Found;
 use crate::vocabulary::Vocabulary;
-use pd_model::{Cond, Conds, Effect, Effects, Schema, SharedTypeNumbers, TypeNumbers};
+use pd_model::{Cond, Conds, Effects, Schema, SharedTypeNumbers, TypeNumbers};
 use pd_sexp::{Name, Tree};
 use pd_words::{
     Fault, ReadError, Scope, Table, Variables, copy_name, is, place_of, read_variable_list,
@@ -125,12 +126,12 @@ fn read_effects(
 ) -> Result<Effects, ReadError>
     ensures { Gives (effects.effect vocabulary.now.types.now (site_of vocabulary.now scope.old []) [] (action.value_of (option_map (λ t. view t.now) tree.entry))) result }
 {
-    let mut found = Vec::new(alloc);
+    let over = SharedTypeNumbers::copied_from(alloc, scope.over())?;
+    let mut found = Found::new(alloc, over)?;
     if let Some(tree) = tree {
-        let over = SharedTypeNumbers::copied_from(alloc, scope.over())?;
-        read_effect(alloc, vocabulary, scope, &over, tree, &mut found)?;
+        read_effect(alloc, vocabulary, scope, tree, &mut found)?;
     }
-    Ok(Effects::of(found))
+    Ok(found.into_effects())
 }
 
 /// The parts of an action of this name.

@@ -15,6 +15,7 @@ mod actions;
 mod cond;
 mod effects;
 mod error;
+mod found;
 mod headed;
 mod init;
 mod objects;

@@ -1,4 +1,4 @@
-use Rattle.std.proofs.Common.{◌≡◌, [], drop}
+use Rattle.std.proofs.Common.{◌≡◌, drop}
 use Rattle.pd_sexp.specs.View.{view, views}
 use Rattle.pd_task.specs.Effects.{all_effects}
 use Rattle.pd_task.specs.Scope.{site_of}
@@ -8,8 +8,9 @@ use Rattle.pd_task.proofs.effects.+read_effect.Given as goal
 abbrev pub invariant-loop-item : goal.invariant-loop-item
 invariant-loop-item l =
     (l.scope ≡ l.fn.scope)
-    × (all_effects l.vocabulary.types.now (site_of l.vocabulary l.fn.scope []) l.into.items (views (drop l.item-index l.item-items))
-    ≡ all_effects l.vocabulary.types.now (site_of l.vocabulary l.fn.scope []) l.fn.into.items (views l.item-items))
+    × (l.into.under ≡ l.fn.into.under)
+    × (all_effects l.vocabulary.types.now (site_of l.vocabulary l.fn.scope l.fn.into.under.cond) l.into.effects (views (drop l.item-index l.item-items))
+    ≡ all_effects l.vocabulary.types.now (site_of l.vocabulary l.fn.scope l.fn.into.under.cond) l.fn.into.effects (views l.item-items))
 
 abbrev pub decreases-read_effect : goal.decreases-read_effect
 decreases-read_effect l = tree_size (view l.tree.now)

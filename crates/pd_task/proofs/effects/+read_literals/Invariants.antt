@@ -7,8 +7,9 @@ use Rattle.pd_task.proofs.effects.+read_literals.Given as goal
 
 abbrev pub invariant-loop-item : goal.invariant-loop-item
 invariant-loop-item l =
-    all_literals (site_of l.vocabulary l.scope l.under.cond.now) l.into.items (views (drop l.item-index l.item-items))
-    ≡ all_literals (site_of l.vocabulary l.scope l.under.cond.now) l.fn.into.items (views l.item-items)
+    (l.into.under ≡ l.fn.into.under)
+    × (all_literals (site_of l.vocabulary l.scope l.fn.into.under.cond) l.into.effects (views (drop l.item-index l.item-items))
+    ≡ all_literals (site_of l.vocabulary l.scope l.fn.into.under.cond) l.fn.into.effects (views l.item-items))
 
 abbrev pub decreases-read_literals : goal.decreases-read_literals
 decreases-read_literals l = tree_size (view l.tree.now)
