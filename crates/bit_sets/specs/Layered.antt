@@ -1,4 +1,4 @@
-use Rattle.std.specs.Prelude.{◌≡◌, ℕ, ◌*◌, ◌/◌, ◌%◌, ◌^◌, ◌<◌, ◌≤◌, ◌==◌, ◌&&◌, ◌||◌, List, length, slice_index, slice_set, Bool, false, not, Option, Some, None, bit_or}
+use Rattle.std.specs.Prelude.{◌≡◌, ℕ, ◌*◌, ◌/◌, ◌%◌, ◌^◌, ◌<◌, ◌≤◌, ◌==◌, ◌&&◌, ◌||◌, List, length, slice_index, slice_set, Bool, true, false, not, Option, Some, None, bit_or}
 pub use Rattle.bit_sets.specs.Words.{word_has, IsLeast}
 
 -- whether a list of words has a bit
@@ -17,6 +17,12 @@ IsAbove words p = (j : ℕ) → p j ≡ not (slice_index words j == 0)
 pub record IsLeastIn (words : List ℕ) (place number : ℕ) : Type 0 where
   pub place_is : number / 64 ≡ place
   pub least : IsLeast (word_has (slice_index words place)) (Some (number % 64))
+
+-- a number is the least member of a set in the word of 64 numbers that another one is in
+pub record IsLeastNear (p : ℕ → Bool) (number least : ℕ) : Type 0 where
+  pub near : least / 64 ≡ number / 64
+  pub own : p least ≡ true
+  pub none : (j : ℕ) → j / 64 ≡ number / 64 → j < least → p j ≡ false
 
 -- words with one more bit
 abbrev pub word_with : ℕ → ℕ → ℕ

@@ -1,7 +1,7 @@
 //! A set that keeps its least member beside the others. It is known without a search, and only where it is taken out the next one
 //! is sought: where numbers come and go near the least, as in a queue by priority, most of the work is at the front.
-ghost use Rattle.std.specs.Prelude.{◌≡◌, ℕ, ◌<◌, ◌≤◌, ◌*◌, ◌==◌, ◌||◌, ◌&&◌, Bool, true, false, not, length, Some, MatchOption};
-ghost use Rattle.bit_sets.specs.Layered.{IsLeast, words_have, IsTakenLeast, IsPast, IsInside, bits_with};
+ghost use Rattle.std.specs.Prelude.{◌≡◌, ℕ, ◌<◌, ◌≤◌, ◌*◌, ◌==◌, ◌||◌, ◌&&◌, Bool, true, false, not, length, Some, IfSome, MatchOption};
+ghost use Rattle.bit_sets.specs.Layered.{IsLeast, IsLeastNear, words_have, IsTakenLeast, IsPast, IsInside, bits_with};
 
 use crate::layer::Layer;
 use crate::set::NumberSet;
@@ -41,7 +41,21 @@ fn take_least<S: NumberSet>(set: &mut Layer<S>) -> Option<u32>
     }
 }
 
-/// Takes the least number out of a set all of whose numbers are past one, if it has one. Mostly the two stand in the same word.
+/// The least number of a set all of whose numbers are past one, if it is near that: mostly the two stand in the same word, or in two
+/// that are near each other.
+#[inline(always)]
+fn next_of<S: NumberSet>(set: &Layer<S>, past: u32) -> Option<u32>
+    requires inside { past < 64 * length set.now.words }
+    requires past { IsPast (words_have set.now.words) (Some past) }
+    ensures { IfSome result (λ n. IsLeast (words_have set.now.words) (Some n)) }
+{
+    match set.least_in(past / 64) {
+        None => set.least_beside(past),
+        Some(number) => Some(number),
+    }
+}
+
+/// Takes the least number out of a set all of whose numbers are past one, if it has one.
 #[inline(always)]
 fn take_next<S: NumberSet>(set: &mut Layer<S>, past: u32) -> Option<u32>
     requires inside { past < 64 * length set.old.words }
@@ -50,7 +64,7 @@ fn take_next<S: NumberSet>(set: &mut Layer<S>, past: u32) -> Option<u32>
     ensures inside { IsInside set.new.words result }
     ensures room { length set.new.words ≡ length set.old.words }
 {
-    match set.least_in(past / 64) {
+    match next_of(set, past) {
         None => take_least(set),
         Some(number) => {
             set.remove(number);
@@ -96,6 +110,13 @@ impl<S: NumberSet> NumberSet for First<S> {
             self.least = take_next(&mut self.others, number);
         } else {
             self.others.remove(number);
+        }
+    }
+
+    fn least_near(&self, number: u32) -> Option<u32> {
+        match self.least {
+            Some(least) if least / 64 == number / 64 => Some(least),
+            _ => None,
         }
     }
 

@@ -1,5 +1,5 @@
-ghost use Rattle.std.specs.Prelude.{◌≡◌, ℕ, ◌<◌, ◌≤◌, ◌*◌, ◌/◌, ◌==◌, ◌||◌, ◌&&◌, ◌+◌, Bool, true, false, not, [], length, slice_index};
-ghost use Rattle.bit_sets.specs.Layered.{IsLeast, words_have};
+ghost use Rattle.std.specs.Prelude.{◌≡◌, ℕ, ◌<◌, ◌≤◌, ◌*◌, ◌/◌, ◌==◌, ◌||◌, ◌&&◌, ◌+◌, Bool, true, false, not, [], length, slice_index, IfSome};
+ghost use Rattle.bit_sets.specs.Layered.{IsLeast, IsLeastIn, IsLeastNear, words_have};
 
 use crate::set::NumberSet;
 use crate::word::{least_bit, with_bit, without_bit};
@@ -34,6 +34,20 @@ pub fn clear_bit(words: &mut Vec<u64>, number: u32) -> bool
     let word = without_bit(words[place], number % 64);
     words[place] = word;
     word == 0
+}
+
+/// The least number in the word at a place, if that has one. No other word is looked at.
+#[inline(always)]
+pub fn word_least(words: &[u64], place: u32) -> Option<u32>
+    requires place { place < length words.now }
+    requires few { length words.now ≤ 67108864 }
+    ensures { IfSome result (λ n. IsLeastIn words.now place n) }
+{
+    let word = words[place as usize];
+    if word == 0 {
+        return None;
+    }
+    Some(64 * place + least_bit(word))
 }
 
 /// A set whose words are looked through, in order, for its least member.
@@ -84,6 +98,12 @@ impl NumberSet for Flat {
     fn grow(&mut self) -> Result<(), AllocError> {
         self.words.push(0)?;
         Ok(())
+    }
+
+    #[inline(always)]
+    #[tactic(auto, using(crate::proofs::BitLemmas::near_of))]
+    fn least_near(&self, number: u32) -> Option<u32> {
+        word_least(&self.words, number / 64)
     }
 
     fn least(&self) -> Option<u32> {

@@ -1,7 +1,7 @@
-ghost use Rattle.std.specs.Prelude.{◌≡◌, ℕ, ◌<◌, ◌≤◌, ◌*◌, ◌/◌, ◌==◌, ◌||◌, ◌&&◌, ◌+◌, Bool, true, false, not, length, slice_index, All, IfSome};
-ghost use Rattle.bit_sets.specs.Layered.{IsLeast, IsLeastIn, words_have, LayerView, IsAbove};
+ghost use Rattle.std.specs.Prelude.{◌≡◌, ℕ, ◌<◌, ◌≤◌, ◌*◌, ◌/◌, ◌==◌, ◌||◌, ◌&&◌, ◌+◌, Bool, true, false, not, length, slice_index, All, Some, IfSome};
+ghost use Rattle.bit_sets.specs.Layered.{IsLeast, IsLeastIn, IsLeastNear, IsPast, words_have, LayerView, IsAbove};
 
-use crate::flat::{clear_bit, set_bit};
+use crate::flat::{clear_bit, set_bit, word_least};
 use crate::set::NumberSet;
 use crate::word::least_bit;
 use std::alloc::{AllocError, Global};
@@ -44,6 +44,12 @@ impl<S: NumberSet> NumberSet for Layer<S> {
         }
     }
 
+    #[inline(always)]
+    #[tactic(auto, using(crate::proofs::BitLemmas::near_of))]
+    fn least_near(&self, number: u32) -> Option<u32> {
+        word_least(&self.words, number / 64)
+    }
+
     fn least(&self) -> Option<u32> {
         match self.above.least() {
             None => None,
@@ -83,10 +89,20 @@ impl<S: NumberSet> Layer<S> {
         requires { place < length self.now.words }
         ensures { IfSome result (λ n. IsLeastIn self.now.words place n) }
     {
-        let word = self.words[place as usize];
-        if word == 0 {
-            return None;
+        word_least(&self.words, place)
+    }
+
+    /// The least number of a set all of whose numbers are past one, if it is in one of the 64 words that the word of that number is
+    /// one of. Only that word is looked at and the one that says which of the 64 are not 0.
+    #[inline(always)]
+    pub fn least_beside(&self, past: u32) -> Option<u32>
+        requires inside { past < 64 * length self.now.words }
+        requires past { IsPast (words_have self.now.words) (Some past) }
+        ensures { IfSome result (λ n. IsLeast (words_have self.now.words) (Some n)) }
+    {
+        match self.above.least_near(past / 64) {
+            None => None,
+            Some(place) => Some(64 * place + least_bit(self.words[place as usize])),
         }
-        Some(64 * place + least_bit(word))
     }
 }

@@ -1,5 +1,5 @@
-ghost use Rattle.std.specs.Prelude.{◌≡◌, ℕ, ◌<◌, ◌==◌, ◌||◌, ◌&&◌, ◌≤◌, ◌+◌, Bool, not, OnOk, OnErr};
-ghost use Rattle.bit_sets.specs.Layered.{IsLeast};
+ghost use Rattle.std.specs.Prelude.{◌≡◌, ℕ, ◌<◌, ◌==◌, ◌||◌, ◌&&◌, ◌≤◌, ◌+◌, Bool, not, IfSome, OnOk, OnErr};
+ghost use Rattle.bit_sets.specs.Layered.{IsLeast, IsLeastNear};
 
 use std::alloc::AllocError;
 
@@ -33,6 +33,11 @@ pub trait NumberSet {
         ensures room { OnOk result (room self.old < room self.new) }
         ensures err { OnErr result (room self.new ≡ room self.old) }
         ensures has { (k : ℕ) → has self.new k ≡ has self.old k };
+
+    /// The least member in the word of 64 numbers that a number is in, if it is found without a look at another word.
+    fn least_near(&self, number: u32) -> Option<u32>
+        requires { number < room self.now }
+        ensures { IfSome result (λ n. IsLeastNear (has self.now) number n) };
 
     /// The least number of the set, if there is one.
     fn least(&self) -> Option<u32>

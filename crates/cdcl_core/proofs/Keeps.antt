@@ -1,5 +1,5 @@
 -- What the next event of a sound state gives: what is learned is a clause that is false, and the state after it is sound.
-use Rattle.std.proofs.Common.{◌≡◌, ℕ, ◌*◌, ◌<◌, List, [], length, replicate, All, Bool, true, false, refl, sym, ap, ◌∙◌, subst, Option, Some, None}
+use Rattle.std.proofs.Common.{◌≡◌, ℕ, ◌<◌, List, [], length, replicate, All, Bool, true, false, refl, sym, ap, ◌∙◌, subst, Option, Some, None}
 use Rattle.std.proofs.lemmas.List.{append-nil}
 use Rattle.clause_base.specs.Formula.{Cnf, IsWithinVariables}
 use Rattle.clause_base.specs.Clause.{IsClause, IsRising}

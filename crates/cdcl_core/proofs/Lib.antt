@@ -1,4 +1,5 @@
 pub mod Keeps
+pub mod Entries
 pub mod Entered
 pub mod Reasons
 pub mod Scans

@@ -1,4 +1,4 @@
-use Rattle.std.specs.Prelude.{◌≡◌, ℕ, ◌*◌, ◌<◌, List, [], ◌∷◌, ◌++◌, length, slice_set, if◌then◌else◌, Bool, true, false, Option, Some, None}
+use Rattle.std.specs.Prelude.{◌≡◌, ℕ, ◌<◌, List, [], ◌∷◌, ◌++◌, length, slice_set, if◌then◌else◌, Bool, true, false, Option, Some, None}
 use Rattle.clause_base.specs.Formula.{Cnf}
 use Rattle.clause_base.specs.Choice.{Known}
 use Rattle.clause_base.specs.Derivation.{clauses_of}

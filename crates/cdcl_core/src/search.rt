@@ -234,6 +234,7 @@ impl Search {
     }
 
     /// Makes a literal true.
+    #[inline(always)]
     fn assign(&mut self, entry: Assigned)
         requires sane { self.old.spoilt ≡ false }
         requires going { is_going self.old.state.standing ≡ true }
@@ -262,29 +263,25 @@ impl Search {
         ensures formula { self.new.formula ≡ self.old.formula }
         ensures spoilt { OnErr result (self.new.spoilt ≡ true) }
     {
-        match event {
+        let entry = match event {
             Event::Conflict(number) => {
                 let learned = self.learned(number)?;
-                self.enter(learned)
-            }
-            Event::Force(literal, clause) => {
-                self.assign(Assigned {
-                    literal,
-                    reason: Some(clause),
-                });
-                Ok(())
-            }
-            Event::Decide(literal) => {
-                self.assign(Assigned {
-                    literal,
-                    reason: None,
-                });
-                Ok(())
+                return self.enter(learned);
             }
             Event::Finish => {
                 self.finish();
-                Ok(())
+                return Ok(());
             }
-        }
+            Event::Force(literal, clause) => Assigned {
+                literal,
+                reason: Some(clause),
+            },
+            Event::Decide(literal) => Assigned {
+                literal,
+                reason: None,
+            },
+        };
+        self.assign(entry);
+        Ok(())
     }
 }

@@ -196,17 +196,9 @@ sound_chosen f s (Some l) o g a c =
 sound_chosen f s None o g a c =
     let v : (u : ℕ) → u < f.variables → IsSome (value_of s.trail u) = λ u l. valued_from s.trail 0 s.variables (recursion_from_All (λ x. IsSome x) (values_of s.variables s.trail) c) u (omega arith) (omega (arith, l, o.many)) in
     let t = all_true f s o v a in
-    record {
-      many = o.many;
-      given = o.given;
-      logged = o.logged;
-      lawful = o.lawful;
-      trail = o.trail;
-      counted = o.counted;
-      found = λ h. t;
-      solved = λ h. solution f s o v t;
-      refuted = λ h. let z : Found ≡ Refuted = h in cc;
-    }
+    let solved = solution f s o v t in
+    let refuted : Found ≡ Refuted → EndsEmpty s.log = λ h. cc in
+    assumption (t, solved, refuted)
 
 sound_by : (f : Cnf) (choose : Known → Option ℕ) (s : State) (o : Option ℕ) → first_pending s ≡ o → IsSound f s → is_going s.standing ≡ true → IsOpenChoice (values_of s.variables s.trail) (choose (values_of s.variables s.trail)) → IsSound f (apply s (elim o [ Some number ↦ asked number (open_ones (is_on s.trail) (clause_at s.clauses number)) | None ↦ chosen_event (choose (values_of s.variables s.trail)) ]))
 sound_by f choose s (Some n) a o g c = sound_asked f s _ o g (asks s n a)

@@ -13,9 +13,12 @@ use Rattle.cdcl_trail.proofs.Assignments.{has_is, place_in}
 use Rattle.cdcl_trail.proofs.Levels.{decisions_of, is_last}
 use Rattle.cdcl_trail.proofs.Mirrors.{half_opposite, on_below, level_by}
 
--- the position of a false literal, its entry and its level
-pub found : (n v l : ℕ) (es : List Assigned) (positions : List ℕ) (start : ℕ) → IsLookedUp n es positions start → is_on es (opposite l) ≡ true → v ≡ l / 2
-    → (let p = get_or positions v 0 in (l / 2 < n) × (p < length es) × (get_or (literals es) p 0 ≡ opposite l) × (decision_count (take (p + 1) es) ≡ level_of es l))
+-- the position of a false literal is that of the entry that made it so, and tells its level
+abbrev pub IsFound : TrailView → ℕ → ℕ → Type 0
+IsFound w l p = (l / 2 < w.variables) × (p < length w.entries) × (get_or (literals w.entries) p 0 ≡ opposite l) × (decision_count (take (p + 1) w.entries) ≡ level_of w.entries l)
+
+found : (n v l : ℕ) (es : List Assigned) (positions : List ℕ) (start : ℕ) → IsLookedUp n es positions start → is_on es (opposite l) ≡ true → v ≡ l / 2
+    → IsFound (record { variables = n; entries = es }) l (get_or positions v 0)
 found n v l es positions start m on half =
     let h = on_below n es m.below (opposite l) on in
     let b : l / 2 < n = omega (arith, h, half_opposite l) in
@@ -31,13 +34,10 @@ found n v l es positions start m on half =
 
 pub found_view : (n v l : ℕ) (es : List Assigned) (positions : List ℕ) (start : ℕ) (w : TrailView) → IsLookedUp n es positions start
     → (let x : TrailView = record { variables = n; entries = es } in x) ≡ w → is_on w.entries (opposite l) ≡ true → v ≡ l / 2
-    → (let p = get_or positions v 0 in (l / 2 < w.variables) × (p < length w.entries) × (get_or (literals w.entries) p 0 ≡ opposite l) ×
-    (decision_count (take (p + 1) w.entries) ≡ level_of w.entries l))
+    → IsFound w l (get_or positions v 0)
 found_view n v l es positions start w m view on half =
     let here : is_on es (opposite l) ≡ true = ap (λ (w : TrailView). is_on w.entries (opposite l)) view ∙ on in
-    let p = get_or positions v 0 in
-    subst (λ (w : TrailView). (l / 2 < w.variables) × (p < length w.entries) × (get_or (literals w.entries) p 0 ≡ opposite l) × (decision_count (take (p + 1) w.entries) ≡ level_of w.entries l)) view
-    (found n v l es positions start m here half)
+    subst (λ (w : TrailView). IsFound w l (get_or positions v 0)) view (found n v l es positions start m here half)
 
 -- two positions of one literal are one, since its variable has one
 pub placed_apart : (n : ℕ) (trail positions : List ℕ) → IsPlaced n trail positions → AreApart trail

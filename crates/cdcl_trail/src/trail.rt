@@ -186,9 +186,10 @@ impl Trail {
         ensures below { lit / 2 < self.now.variables }
         ensures small { self.now.variables ≤ 2147483647 }
     {
-        let length = self.length_with(lit);
-        let level = self.starts.len();
-        level == 0 || self.starts[level - 1] < length
+        let lookup = self.lookup();
+        // For the proof: the variables are few.
+        let _few = lookup.entries();
+        lookup.is_current(lookup.position(lit))
     }
 
     /// The position where the current level begins; 0 where there is no decision.

@@ -88,6 +88,22 @@ none_at on v e f = rw (e, f)
 pub read_at : (on : List Bool) (i : ℕ) (got b : Bool) → i < length on → got ≡ get_or on i got → got ≡ b → get_or on i false ≡ b
 read_at on i got b h e f = get_or_default on i false got h ∙ sym e ∙ f
 
+-- so the value of a variable is read
+pub values_read : (n v : ℕ) (on : List Bool) (now : Known) {o : Option Bool} → values_of n on ≡ now → v < n → value_at on v ≡ o → slice_get now v ≡ Some o
+values_read n v on now is below at =
+    ap (λ (values : Known). slice_get values v) (sym is) ∙ values-get n v on below ∙ ap (λ (x : Option Bool). Some x) at
+
+-- and that of one whose first literal is not true
+pub off_read : (n v : ℕ) (on : List Bool) (now : Known) (a b x : Bool) → values_of n on ≡ now → v < n → length on ≡ 2 * n → a ≡ get_or on (2 * v) a
+    → b ≡ get_or on (2 * v + 1) b → a ≡ false → b ≡ x → slice_get now v ≡ Some (if x then Some false else None)
+off_read n v on now a b x is below size ea eb fa fb =
+    values_read n v on now is below
+    (by x (read_at on (2 * v) a false (omega (arith, below, size)) ea fa) (read_at on (2 * v + 1) b x (omega (arith, below, size)) eb fb))
+  where
+    by : (x : Bool) → get_or on (2 * v) false ≡ false → get_or on (2 * v + 1) false ≡ x → value_at on v ≡ (if x then Some false else None)
+    by true f s = false_at on v f s
+    by false f s = none_at on v f s
+
 -- past the last variable too
 pub values-at : (n low v : ℕ) (on : List Bool) → AreTruths n low on → get_or (values_of n on) v None ≡ value_at on v
 values-at n low v on r = by (below_or v n)

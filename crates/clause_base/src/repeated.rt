@@ -59,10 +59,10 @@ impl Repeated {
     {
         let sizes = sizes_of(horizon, width, &step, &time);
         Repeated {
+            sizes,
             horizon,
             width,
             facts,
-            sizes,
             step,
             time,
         }

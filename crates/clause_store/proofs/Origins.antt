@@ -1,12 +1,12 @@
 -- What the lists of a literal are by its origin.
-use Rattle.std.proofs.Common.{arith, ◌≡◌, ℕ, ◌+◌, ◌-◌, ◌*◌, ◌/◌, ◌<◌, ◌≤◌, List, [], ltb, true, false, if◌then◌else◌, sym, ap, ◌∙◌}
+use Rattle.std.proofs.Common.{arith, ◌≡◌, ℕ, ◌+◌, ◌-◌, ◌*◌, ◌/◌, ◌<◌, ◌≤◌, List, [], ltb, true, false, if◌then◌else◌, sym, ap, ◌∙◌, subst}
 use Rattle.std.proofs.lemmas.Bool.Decides.{nat_tests}
 use Rattle.clause_store.specs.declared.pair.Pair.{Pair}
 use Rattle.clause_store.specs.declared.shape.Shape.{Shape}
 use Rattle.clause_store.specs.declared.origin.Origin.{Origin}
 use Rattle.clause_store.specs.declared.origin.Origin.TheVariants.{Step, Time, Other}
 use Rattle.clause_store.specs.Lists.{facts_begin, facts_end, step_move, time_move, moved_list, last_list, next_list, time_list}
-use Rattle.clause_store.specs.Origin.{AreEmptyBy, IsOrigin}
+use Rattle.clause_store.specs.Origin.{AreEmptyBy, IsOrigin, ListsView}
 use Rattle.clause_store.proofs.Steps.{in_step_of, at_time_of}
 use Rattle.clause_store.proofs.Whole.{next_own, last_own, time_own, three, past_three}
 
@@ -22,6 +22,10 @@ empty_by z x step time Other i =
       past_three _ _ [] (ltb x (facts_begin z)) (ltb x (facts_end z)) e f,
       past_three [] _ [] (ltb x (facts_begin z)) (ltb x (facts_end z)) e f,
     )
+
+-- the literal is of the origin that is told of its lists
+pub told_origin : (z : Shape) (x : ℕ) {o : Origin} {own told : ListsView} → own ≡ told → told.origin ≡ o → IsOrigin z x own.origin → IsOrigin z x o
+told_origin z x is origin own = subst (IsOrigin z x) (ap (λ (v : ListsView). v.origin) is ∙ origin) own
 
 module _ (z : Shape) (x : ℕ) where
   -- a literal of a step

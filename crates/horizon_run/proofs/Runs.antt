@@ -1,5 +1,5 @@
 -- What the laws of a solver's states say of the run of a horizon.
-use Rattle.std.proofs.Common.{arith, ◌≡◌, ℕ, suc, ◌+◌, ◌-◌, ◌<◌, ◌≤◌, Bool, false, refl, sym, ap, ◌∙◌, subst, List, [], ◌∷◌, sum, Option}
+use Rattle.std.proofs.Common.{arith, ◌≡◌, ℕ, suc, ◌+◌, ◌-◌, ◌<◌, ◌≤◌, Bool, false, refl, sym, ap, ◌∙◌, subst, List, [], ◌∷◌, sum, Option, Result, Ok, Err, OnOk}
 use Rattle.clause_base.specs.Choice.{Known}
 use Rattle.goal_choice.specs.Means.{Means}
 use Rattle.goal_choice.specs.Choice.{choice_by}
@@ -67,7 +67,7 @@ seen old new k add m e formula means granted sane =
     λ i. record { formula = formula i; means = means i; state = there i; granted = granted i; spoilt = sane i }
 
 -- a run that goes on from where its origin has it
-pub resumes : (old new : RunView) (k n : ℕ) → AddsUp (choice_in old) old.formula → new ≡ moved_to old (old.granted + n)
+resumes : (old new : RunView) (k n : ℕ) → AddsUp (choice_in old) old.formula → new ≡ moved_to old (old.granted + n)
     → new.state ≡ after (choice_in old) old.state n → still old ≡ still (moved_by (origin old) k)
     → still new ≡ still (moved_by (origin old) (k + n))
 resumes old new k n add is went was =
@@ -77,6 +77,12 @@ resumes old new k n add is went was =
     let means = ap (λ (r : RunView). r.means) is in
     let spoilt = ap (λ (r : RunView). r.spoilt) is in
     λ i. record { formula = formula i; means = means i; state = state i; granted = 0; spoilt = spoilt i }
+
+-- the same where there was memory
+pub resumes_on : {T E : Type 0} (old new : RunView) (n : ℕ) (r : Result T E) → AddsUp (choice_in old) old.formula → OnOk r (new ≡ moved_to old (old.granted + n))
+    → OnOk r (new.state ≡ after (choice_in old) old.state n) → OnOk r ((k : ℕ) → still old ≡ still (moved_by (origin old) k) → still new ≡ still (moved_by (origin old) (k + n)))
+resumes_on old new n (Ok t) add is went = λ k. resumes old new k n add is went
+resumes_on old new n (Err e) add is went = is
 
 -- a settled run stays, apart from what it was granted
 pub rests : (r : RunView) → Stays (choice_in r) r.formula → (k n : ℕ) → goes (moved_by (origin r) k) ≡ false

@@ -9,7 +9,7 @@ impl Resume for HorizonRun {
     ghost use Rattle.std.specs.Prelude.{refl};
     ghost use Rattle.horizon_run.specs.Resume.{origin, moved_by, still, goes};
 
-    ghost horizon_of = { λ r. r.formula.name };
+    ghost key_of = { λ r. r.formula.name };
 
     ghost granted_of = { λ r. r.granted };
 
@@ -24,10 +24,7 @@ impl Resume for HorizonRun {
     ghost spoilt_at = { λ r. r.spoilt };
 
     fn advance(&mut self, conflicts: u32) -> Result<(), Memory> {
-        match self.go_on(conflicts) {
-            Ok(()) => Ok(()),
-            Err(_) => Err(Memory),
-        }
+        self.go_on(conflicts)
     }
 
     fn horizon(&self) -> u32 {
@@ -35,11 +32,7 @@ impl Resume for HorizonRun {
     }
 
     fn unsettled(&self) -> bool {
-        match self.standing() {
-            Standing::Going => true,
-            Standing::Found => false,
-            Standing::Refuted => false,
-        }
+        matches!(self.standing(), Standing::Going)
     }
 
     fn spoilt(&self) -> bool {

@@ -68,23 +68,3 @@ pub fn add_told(
     }
     Ok(())
 }
-
-/// Puts in the literals that stand in a clause with one of some literals.
-pub fn add_partners(
-    clauses: &[BitRow],
-    bound: &Bound,
-    lits: &BitRow,
-    partners: &mut BitRow,
-) -> Result<(), AllocError>
-    requires few { length clauses.now ≤ 4096 }
-    requires bound { IsBound (clause_in clauses.now) bound.now }
-    requires lits { IsSetOf (length clauses.now) (row_has lits.now) }
-    ensures { OnOk result ((y m : ℕ) → row_has lits.now y ≡ true → clause_in clauses.now y m ≡ true → row_has partners.new m ≡ true) }
-{
-    let mut from = 0;
-    while let Some(y) = lits.least_common(&bound.literals, from) {
-        partners.unite(&clauses[y as usize])?;
-        from = y + 1;
-    }
-    Ok(())
-}

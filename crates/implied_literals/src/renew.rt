@@ -1,14 +1,14 @@
 //! What literals tell, worked out anew after clauses were dropped: only where it may have become less.
 
-ghost use Rattle.std.specs.Prelude.{◌≡◌, ℕ, ◌+◌, ◌*◌, ◌<◌, ◌==◌, ◌&&◌, ◌||◌, not, true, false, if◌then◌else◌, length, IfOk, OnOk};
+ghost use Rattle.std.specs.Prelude.{◌≡◌, ℕ, ◌+◌, ◌*◌, ◌<◌, ◌≤◌, ◌==◌, ◌&&◌, ◌||◌, not, true, false, if◌then◌else◌, length, IfOk, OnOk};
 ghost use Rattle.std.specs.Bool.{OnTrue};
 ghost use Rattle.bit_sets.specs.Rows.{row_has};
 ghost use Rattle.gt_core.specs.Literal.{opposite};
 ghost use Rattle.implied_literals.specs.Rows.{row_at, clause_in, AreRows, IsPart, IsClosure};
 ghost use Rattle.implied_literals.specs.Tested.{IsSetOf};
-ghost use Rattle.implied_literals.specs.Renewed.{AreRules, AreDone, WasClosed, WasTold};
+ghost use Rattle.implied_literals.specs.Renewed.{IsBound, AreRules, AreDone, WasClosed, WasTold};
 
-use crate::bound::{add_partners, add_told};
+use crate::bound::add_told;
 use crate::close::{Done, Rules, Spare, close};
 use bit_sets::row::BitRow;
 use gt_core::lits::opposite;
@@ -44,6 +44,21 @@ fn has_fewer(one: &BitRow, other: &BitRow, third: &BitRow, fourth: &BitRow) -> b
     true
 }
 
+/// Puts in the literals that stand in a clause with one of some literals.
+fn add_partners(rules: &Rules, lits: &BitRow, partners: &mut BitRow) -> Result<(), AllocError>
+    requires few { length rules.now.clauses.now ≤ 4096 }
+    requires bound { IsBound (clause_in rules.now.clauses.now) rules.now.bound.now }
+    requires lits { IsSetOf (length rules.now.clauses.now) (row_has lits.now) }
+    ensures { OnOk result ((y m : ℕ) → row_has lits.now y ≡ true → clause_in rules.now.clauses.now y m ≡ true → row_has partners.new m ≡ true) }
+{
+    let mut from = 0;
+    while let Some(y) = lits.least_common(&rules.bound.literals, from) {
+        partners.unite(&rules.clauses[y as usize])?;
+        from = y + 1;
+    }
+    Ok(())
+}
+
 /// Whether none of some literals stands in a clause with the opposite of one of a set. Goes through the fewer of those of
 /// the set that tell something and of the others that stand in a clause. `room` is room for a row.
 fn none_follows(
@@ -62,7 +77,7 @@ fn none_follows(
         add_told(rules.clauses, rules.bound, set, room)?;
         return Ok(lits.least_common(room, 0).is_none());
     }
-    add_partners(rules.clauses, rules.bound, lits, room)?;
+    add_partners(rules, lits, room)?;
     Ok(is_apart(room, set))
 }
 

@@ -1,4 +1,4 @@
-use Rattle.std.proofs.Common.{arith, ◌≡◌, ◌==◌, ℕ, zero, suc, ◌+◌, ◌<◌, ◌≤◌, List, [], ◌∷◌, ◌++◌, length, get_or, set, drop, Bool, true, false, not, ◌&&◌, ◌||◌, refl, ap, sym, ◌∙◌, ◌⊎◌, inl, inr, subst, Some, None, Option}
+use Rattle.std.proofs.Common.{arith, ◌≡◌, ◌==◌, ℕ, zero, suc, ◌+◌, ◌*◌, ◌<◌, ◌≤◌, List, [], ◌∷◌, ◌++◌, length, get_or, set, drop, Bool, true, false, not, ◌&&◌, ◌||◌, refl, ap, sym, ◌∙◌, ◌⊎◌, inl, inr, subst, Some, None, Option}
 use Rattle.std.specs.Prelude.{nat_lt, is_some}
 use Rattle.std.specs.List.{list_any, AllByRecursion}
 use Rattle.std.proofs.lemmas.Bool.{cases_lt, lt-ltb as lt_test, le-ltb as ge_test}
@@ -37,6 +37,13 @@ pub all_read : {A : Type 0} (P : A → Type 0) (xs : List A) (i : ℕ) (x : A) �
 all_read P [] i x all l at = absurd (omega arith)
 all_read P (z ∷ xs) zero x all l at = subst P (sym at) all.0
 all_read P (z ∷ xs) (suc i) x all l at = all_read P xs i x all.1 (omega arith) at
+
+-- the opposite of an effect's literal is one of the literals, of which there are as many as rows
+pub opposite_fits : (facts : ℕ) (effects : List Effect) {i lit l rows : ℕ} {e : Effect} → AllByRecursion (EffectFits (2 * facts)) effects → i < length effects → e ≡ get_or effects i e
+    → lit ≡ e.literal → l ≡ opposite lit → rows ≡ 2 * facts → l < rows
+opposite_fits facts effects {i} {lit} {l} {rows} {e} fit inside at is_lit is_opposite long =
+    subst (λ (n : ℕ). l < n) (sym long)
+    (subst (λ (k : ℕ). k < 2 * facts) (sym (is_opposite ∙ ap opposite is_lit)) (all_read (EffectFits (2 * facts)) effects i e fit inside at).literal)
 
 pub all_push : {A : Type 0} (P : A → Type 0) (xs : List A) (x : A) → AllByRecursion P xs → P x → AllByRecursion P (xs ++ x ∷ [])
 all_push P [] x all one = (one, tt)

@@ -26,7 +26,8 @@ fn remove_opposites(effects: &[Eff], set: &mut BitRow)
     }
 }
 
-/// Whether the clauses of a literal are all with literals of a set, but for those that are lost. `either` is room for a row.
+/// True only where the clauses of a literal are all with literals of a set, but for those that are lost. `either` is room for
+/// a row.
 fn is_row_among(
     clauses: &[BitRow],
     lost: &[BitRow],
@@ -49,32 +50,9 @@ fn is_row_among(
     Ok(covered)
 }
 
-/// Whether the clauses of the opposites of the literals of effects are all with literals of a set, but for those that are
-/// lost.
-fn are_opposites_among(
-    facts: u32,
-    clauses: &[BitRow],
-    lost: &[BitRow],
-    effects: &[Eff],
-    set: &BitRow,
-    either: &mut BitRow,
-) -> Result<bool, AllocError>
-    requires clauses { AreRows facts clauses.now }
-    requires lost { length lost.now ≡ 2 * facts }
-    requires effects { AllByRecursion (EffectFits (2 * facts)) effects.now }
-    ensures { IfOk result (λ among. among ≡ true → (l m : ℕ) → has_opposite effects.now l ≡ true → IsKept clauses.now lost.now (row_has set.now) l m) }
-{
-    for effect in effects {
-        let among = is_row_among(clauses, lost, opposite(effect.lit()), set, either)?;
-        if !among {
-            return Ok(false);
-        }
-    }
-    Ok(true)
-}
-
-/// Whether effects break nothing more where a set is known before them: each literal of a clause that they may break is in
-/// it, and none of them takes it, or the clause is lost.
+/// True only where effects break nothing more where a set is known before them: each literal of a clause that they may break
+/// is in it, and none of them takes it, or the clause is lost. It saves the work of the clauses one by one, so that false
+/// promises nothing.
 pub fn are_harmless(
     facts: u32,
     clauses: &[BitRow],
@@ -90,36 +68,18 @@ pub fn are_harmless(
 {
     room.there.make_same(set)?;
     remove_opposites(effects, &mut room.there);
-    let among = are_opposites_among(facts, clauses, lost, effects, &room.there, &mut room.given)?;
-    Ok(among)
-}
-
-/// Whether the clauses of some literals are all with literals of a set, but for those that are lost.
-fn are_among(
-    clauses: &[BitRow],
-    lost: &[BitRow],
-    lits: &BitRow,
-    set: &BitRow,
-    either: &mut BitRow,
-) -> Result<bool, AllocError>
-    requires few { length clauses.now ≤ 4096 }
-    requires lost { length lost.now ≡ length clauses.now }
-    requires lits { IsSetOf (length clauses.now) (row_has lits.now) }
-    ensures { IfOk result (λ among. among ≡ true → (l m : ℕ) → row_has lits.now l ≡ true → IsKept clauses.now lost.now (row_has set.now) l m) }
-{
-    let mut from = 0;
-    while let Some(l) = lits.least(from) {
-        let among = is_row_among(clauses, lost, l, set, either)?;
+    for effect in effects {
+        let l = opposite(effect.lit());
+        let among = is_row_among(clauses, lost, l, &room.there, &mut room.given)?;
         if !among {
             return Ok(false);
         }
-        from = l + 1;
     }
     Ok(true)
 }
 
-/// Whether a group breaks nothing more for a reason that is seen at once: each literal of a clause that it may break is
-/// known and taken by no group, or the clause is lost.
+/// True only where a group breaks nothing more for a reason that is seen at once: each literal of a clause that it may break
+/// is known and taken by no group, or the clause is lost. Here too false promises nothing.
 pub fn is_harmless(
     clauses: &[BitRow],
     lost: &[BitRow],
@@ -136,12 +96,13 @@ pub fn is_harmless(
     room.there.make_same(known)?;
     room.there.subtract(&takers.plain);
     room.there.subtract(&takers.by.literals);
-    let among = are_among(
-        clauses,
-        lost,
-        &group.opposites,
-        &room.there,
-        &mut room.given,
-    )?;
-    Ok(among)
+    let mut from = 0;
+    while let Some(l) = group.opposites.least(from) {
+        let among = is_row_among(clauses, lost, l, &room.there, &mut room.given)?;
+        if !among {
+            return Ok(false);
+        }
+        from = l + 1;
+    }
+    Ok(true)
 }

@@ -25,23 +25,28 @@ use std::thread::Threads;
 /// one takes as long as testing some hundred.
 const PIECE: usize = 2048;
 
-/// What the actions of one piece break, the one with the number `piece`.
-fn piece_losses(
-    alloc: Global,
+/// What a round tests: the actions with the numbers `todo`, where this is known and these are the clauses over literals of
+/// so many facts.
+#[derive(Drop)]
+struct Round<'a> {
     facts: u32,
-    known: &Known,
-    clauses: &[BitRow],
-    acts: &[Act],
-    todo: &[usize],
-    piece: usize,
-) -> Result<Vec<BitRow>, AllocError>
-    requires can { CanTest facts known.now clauses.now acts.now todo.now }
-    requires piece { 2048 * piece < length todo.now }
-    ensures { IfOk result (λ lost. AreLosses facts known.now clauses.now acts.now todo.now (2048 * piece) (2048 * piece + 2048) lost.items) }
+    known: &'a Known,
+    clauses: &'a [BitRow],
+    acts: &'a [Act],
+    todo: &'a [usize],
+}
+
+/// What the actions of one piece break, the one with the number `piece`.
+fn piece_losses(alloc: Global, round: &Round, piece: usize) -> Result<Vec<BitRow>, AllocError>
+    requires can { CanTest round.now.facts round.now.known.now round.now.clauses.now round.now.acts.now round.now.todo.now }
+    requires piece { 2048 * piece < length round.now.todo.now }
+    ensures { IfOk result (λ lost. AreLosses round.now.facts round.now.known.now round.now.clauses.now round.now.acts.now round.now.todo.now (2048 * piece) (2048 * piece + 2048) lost.items) }
 {
+    let acts = round.acts;
+    let todo = round.todo;
     let low = PIECE * piece;
     let count = PIECE.min(todo.len() - low);
-    let mut lost = empty_rows(alloc, 2 * facts as usize)?;
+    let mut lost = empty_rows(alloc, 2 * round.facts as usize)?;
     let mut room = Room {
         there: BitRow::new(alloc),
         given: BitRow::new(alloc),
@@ -49,9 +54,9 @@ fn piece_losses(
     for i in low..low + count {
         add_losses_of(
             alloc,
-            facts,
-            known,
-            clauses,
+            round.facts,
+            round.known,
+            round.clauses,
             &acts[todo[i]],
             &mut lost,
             &mut room,
@@ -64,23 +69,19 @@ fn piece_losses(
 fn all_losses(
     rt: &(impl Threads + Sync),
     alloc: Global,
-    facts: u32,
-    known: &Known,
-    clauses: &[BitRow],
-    acts: &[Act],
-    todo: &[usize],
+    round: &Round,
 ) -> Result<Vec<Vec<BitRow>>, AllocError>
-    requires can { CanTest facts known.now clauses.now acts.now todo.now }
-    ensures { IfOk result (λ tables. AreAllLosses facts known.now clauses.now acts.now todo.now tables.items) }
+    requires can { CanTest round.now.facts round.now.known.now round.now.clauses.now round.now.acts.now round.now.todo.now }
+    ensures { IfOk result (λ tables. AreAllLosses round.now.facts round.now.known.now round.now.clauses.now round.now.acts.now round.now.todo.now tables.items) }
 {
-    (0..todo.len().div_ceil(PIECE))
+    (0..round.todo.len().div_ceil(PIECE))
         .into_par_iter()
         .with_min_len(1)
         .map(
             |p: usize| -> Result<Vec<BitRow>, AllocError>
-                requires { CanTest facts known.now clauses.now acts.now todo.now × (2048 * p < length todo.now) }
-                ensures { IfOk result (λ t. AreLosses facts known.entry.now clauses.entry.now acts.entry.now todo.entry.now (2048 * p) (2048 * p + 2048) t.items) }
-            { piece_losses(alloc, facts, known, clauses, acts, todo, p) },
+                requires { CanTest round.now.facts round.now.known.now round.now.clauses.now round.now.acts.now round.now.todo.now × (2048 * p < length round.now.todo.now) }
+                ensures { IfOk result (λ t. AreLosses round.entry.now.facts round.entry.now.known.now round.entry.now.clauses.now round.entry.now.acts.now round.entry.now.todo.now (2048 * p) (2048 * p + 2048) t.items) }
+            { piece_losses(alloc, round, p) },
         )
         .collect::<Result<Vec<_>, AllocError>>(rt, alloc)?
 }
@@ -128,6 +129,13 @@ pub fn drop_broken(
 {
     let facts = task.facts();
     stale.make_room(2 * facts as usize)?;
-    let tables = all_losses(rt, alloc, facts, known, rows.as_slice(), task.acts(), todo)?;
+    let round = Round {
+        facts,
+        known,
+        clauses: rows.as_slice(),
+        acts: task.acts(),
+        todo,
+    };
+    let tables = all_losses(rt, alloc, &round)?;
     Ok(drop_all(rows, tables.as_slice(), stale))
 }

@@ -1,10 +1,9 @@
 -- The promises of the top call, each from what it needs alone: mostly that its ending has a cause and that its text is written.
-use Rattle.std.proofs.Common.{◌≡◌, ◌==◌, ◌≤◌, ◌+◌, ◌-◌, ℕ, length, Bool, true, false, List, [], ◌∷◌, ◌++◌, Option, Some, None, refl, sym, ap, subst, ◌∙◌, arith, inl, inr, min}
+use Rattle.std.proofs.Common.{◌≡◌, ◌==◌, ◌≤◌, ◌+◌, ◌-◌, ℕ, length, Bool, true, false, List, [], ◌∷◌, Option, Some, None, refl, sym, ap, subst, ◌∙◌, arith, inl, inr}
 use Rattle.std.specs.Prelude.{Contains, ◌⊎◌}
 use Rattle.std.proofs.lemmas.Bool.Decides.{eqb_tells}
-use Rattle.pl_io.specs.Outside.{Heard, whole, Rose, appended}
+use Rattle.pl_io.specs.Outside.{Heard, Rose, appended}
 use Rattle.cnf_text.specs.Text.{formula_text}
-use Rattle.clause_base.specs.Formula.{Cnf}
 use Rattle.pd_task.specs.declared.error.PddlError.{PddlError}
 use Rattle.pd_task.specs.declared.error.PddlError.TheVariants as errors
 use Rattle.pd_model.specs.declared.parts.Parts.{Parts}
@@ -36,11 +35,10 @@ use Rattle.judge_requests.specs.Seen.{Seen, formulas, judges, models, domain_of,
 use Rattle.judge_requests.specs.Requested.{requested}
 use Rattle.judge_endings.specs.Ended.{status_of, text_of}
 use Rattle.judge_endings.specs.declared.ended.Ended.{Ended}
-use Rattle.judge_endings.specs.declared.ended.Ended.TheVariants.{Plain, Refuted, Rejected, Syntax, Unread, Usage}
-use Rattle.judge_top.specs.Answers.{TapeRun, OnceReady, not_ready, ready, AnswersFormula, AnswersJudge, AnswersModel, too_large, formula, unread, judged, model, ended_by, IsUnread, OfKnown, HasNone, TellsTooMany, word_of}
-use Rattle.judge_top.specs.declared.model.Told.{Told}
+use Rattle.judge_endings.specs.declared.ended.Ended.TheVariants.{Plain, Unread, Usage}
+use Rattle.judge_top.specs.Answers.{TapeRun, OnceReady, not_ready, ready, AnswersFormula, AnswersJudge, AnswersModel, too_large, formula, unread, judged, model, ended_by, IsUnread, TellsTooMany, word_of}
 use Rattle.judge_top.specs.declared.model.Told.TheVariants as tolds
-use Rattle.judge_top.specs.Causes.{Answers, Comes, no_request, asked, ComesFor, StopsAt, OfTaken, IsUnopened, HasFault, names_in, two_of}
+use Rattle.judge_top.specs.Causes.{Answers, Comes, no_request, asked, ComesFor, StopsAt, OfTaken, HasFault, names_in, two_of}
 use Rattle.judge_top.specs.Headline.{IsProvedNone, PlanRunsIn, TellsFormula, OfVerdict, IsAccepted, IsRejected, IsNoProof, OrNoTask, TellsModel, TellsNoModel, TellsNoText, IsModelTold, IsNoModelTold, IsNoTextTold}
 
 -- ---- statuses of what stops a run

@@ -1,5 +1,5 @@
 -- What a domain and a problem, and a proof, come to for the judge.
-use Rattle.std.specs.Prelude.{◌≡◌, ◌<◌, ℕ, Bool, List, length, codes, Result, Ok, Err, Option, Some, None}
+use Rattle.std.specs.Prelude.{◌≡◌, ◌<◌, ℕ, Bool, List, codes, Result, Ok, Err, Option, Some, None}
 use Rattle.std.specs.List.{AllByRecursion}
 use Rattle.clause_base.specs.Formula.{Cnf, IsModel, IsUnsatisfiable, assignment_of}
 use Rattle.cnf_text.specs.Text.{formula_text}

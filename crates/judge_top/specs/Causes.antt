@@ -1,5 +1,5 @@
 -- When each ending of a run of the judge comes.
-use Rattle.std.specs.Prelude.{◌≡◌, ◌⊎◌, ℕ, List, [], ◌∷◌, ◌++◌, Option, Some, None}
+use Rattle.std.specs.Prelude.{◌≡◌, ◌⊎◌, ℕ, List, [], ◌∷◌, ◌++◌, Some, None}
 use Rattle.pl_io.specs.Outside.{Heard, whole, Rose}
 use Rattle.requests.specs.Seen.{grounds}
 use Rattle.requests.specs.declared.request.Stepping.{Stepping}

@@ -114,37 +114,20 @@ pub fn judge<H: Threads + Sync, S: Shelf, T: Tape, K: Sink>(
     ensures faults { K.faults sink.old ≤ K.faults sink.new }
 {
     told_plans::laws::laws();
-    answered(rt, alloc, words, shelf, tape, sink)
+    finish(alloc, decide(rt, alloc, words, shelf, tape), sink)
 }
 
-// Decides how the run ends, and writes the text of that.
-fn answered<H: Threads + Sync, S: Shelf, T: Tape, K: Sink>(
-    rt: &H,
-    alloc: Global,
-    words: &[String],
-    shelf: &mut S,
-    tape: &mut T,
-    sink: &mut K,
-) -> Status
-    ensures due { result.0 ≢ 6 → result.0 ≢ 8 → (end : Ended) × (result.0 ≡ status_of end)
-        × Comes (S.heard shelf.old) (S.heard shelf.new) (S.failed shelf.old) (S.failed shelf.new) (tape_run (T.faults tape.old) (T.faults tape.new) (T.given tape.new)) (map string_bytes words.now) end
-        × (K.taken sink.new ≡ appended (K.taken sink.old) (text_of end)) }
+// Writes the text of an ending, answered or handed on.
+fn finish<K: Sink>(alloc: Global, decided: Result<Ended, Stop>, sink: &mut K) -> Status
+    requires { (end : Ended) → end_in decided ≡ Some end → (status_of end ≢ 6) × (status_of end ≢ 8) }
+    ensures due { result.0 ≢ 6 → result.0 ≢ 8 → (end : Ended) × (result.0 ≡ status_of end) × (end_in decided ≡ Some end) × (K.taken sink.new ≡ appended (K.taken sink.old) (text_of end)) }
     ensures write_fault { result.0 ≡ 6 → Rose (K.faults sink.old) (K.faults sink.new) }
-    ensures front { result.0 ≢ 8 → (end : Ended)
-        × Comes (S.heard shelf.old) (S.heard shelf.new) (S.failed shelf.old) (S.failed shelf.new) (tape_run (T.faults tape.old) (T.faults tape.new) (T.given tape.new)) (map string_bytes words.now) end
-        × TakesFront (K.taken sink.old) (K.taken sink.new) (text_of end) }
+    ensures front { result.0 ≢ 8 → (end : Ended) × (end_in decided ≡ Some end) × TakesFront (K.taken sink.old) (K.taken sink.new) (text_of end) }
     ensures nothing { result.0 ≡ 8 → sink.new ≡ sink.old }
-    ensures no_command { command_named (map string_bytes words.now) ≡ None → result.0 ≢ 8 }
-    ensures untouched { requested (map string_bytes words.now) ≡ None → shelf.new ≡ shelf.old }
-    ensures noted { NotesAmong (names_in (map string_bytes words.now)) (S.failed shelf.old) (S.failed shelf.new) }
-    ensures agrees { Agrees (S.told shelf.old) (S.lacks shelf.old) (S.heard shelf.old) (S.heard shelf.new) }
-    ensures told { S.told shelf.new ≡ S.told shelf.old }
-    ensures lacks { S.lacks shelf.new ≡ S.lacks shelf.old }
-    ensures never_falls { (name : List ℕ) → fault_count name (S.failed shelf.old) ≤ fault_count name (S.failed shelf.new) }
-    ensures tape_faults { T.faults tape.old ≤ T.faults tape.new }
+    ensures usage { end_in decided ≡ Some Ended.Usage → result.0 ≢ 8 }
     ensures faults { K.faults sink.old ≤ K.faults sink.new }
 {
-    let Some(end) = end_of(decide(rt, alloc, words, shelf, tape)) else {
+    let Some(end) = end_of(decided) else {
         return Status(8);
     };
     written(alloc, end, sink)

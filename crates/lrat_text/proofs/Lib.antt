@@ -4,3 +4,5 @@ pub mod LineLaws
 pub mod Texts
 pub mod Pieces
 pub mod Fronts
+pub mod FewDigits
+pub mod Eight

@@ -1,15 +1,15 @@
 -- Numbers read up to a 0, one after another.
-use Rattle.std.proofs.Common.{◌≡◌, ◌==◌, ◌+◌, ◌||◌, Result, Ok, not, ℕ, List, [], ◌∷◌, ◌++◌, length, map, filter, drop, Bool, true, false, Option, Some, None, option_map, if◌then◌else◌, refl, sym, ap, ◌∙◌, subst, append_assoc, append-nil}
-use Rattle.std.specs.Prelude.{option_and_then, codes}
+use Rattle.std.proofs.Common.{◌≡◌, ◌==◌, ◌||◌, Result, Ok, not, ℕ, List, [], ◌∷◌, ◌++◌, length, map, filter, drop, Bool, true, false, Option, Some, None, option_map, if◌then◌else◌, refl, sym, ap, ◌∙◌, subst, append_assoc, append-nil}
+use Rattle.std.specs.Prelude.{codes}
 use Rattle.std.specs.List.{list_any}
 use Rattle.std.proofs.lemmas.List.{map-append}
 use Rattle.std.proofs.lemmas.List.Elements.{filter-append}
 use Rattle.containers.specs.declared.memory.Memory.{Memory}
 use Rattle.lrat_text.specs.declared.words.Signed.{Signed}
 use Rattle.lrat_text.specs.declared.line.Line.{Line}
-use Rattle.lrat_text.specs.Words.{number_of, first_number, words_of, begins_with}
+use Rattle.lrat_text.specs.Words.{first_number, words_of, begins_with}
 use Rattle.lrat_text.proofs.WordsLaws.{not_zero}
-use Rattle.lrat_text.specs.Line.{LineView, line_of, up_to_zero, all_to_zero, addition, deletion, codes_of, code_of, has_code, plain_ids, IsHeld}
+use Rattle.lrat_text.specs.Line.{line_of, up_to_zero, all_to_zero, addition, deletion, codes_of, code_of, has_code, plain_ids, IsHeld}
 use Rattle.lrat_text.specs.Reading.{SameHead, ReadsLiterals, ReadsIds}
 
 -- numbers that were read, and the words that are left, with these before them

@@ -1,5 +1,5 @@
 -- The front of a text, cut off where its bytes change kind.
-use Rattle.std.specs.Prelude.{ℕ, Bool, true, List, [], ◌∷◌, if◌then◌else◌}
+use Rattle.std.specs.Prelude.{ℕ, Bool, true, not, List, [], ◌∷◌, if◌then◌else◌}
 use Rattle.std.specs.Char.{is_ascii_digit}
 use Rattle.lrat_text.specs.Words.{is_blank}
 
@@ -7,6 +7,10 @@ use Rattle.lrat_text.specs.Words.{is_blank}
 abbrev pub after_blanks : List ℕ → List ℕ
 after_blanks [] = []
 after_blanks (b ∷ bytes) = if is_blank b then after_blanks bytes else b ∷ bytes
+
+-- whether a byte is no digit
+abbrev pub is_other : ℕ → Bool
+is_other b = not (is_ascii_digit b)
 
 -- the digits at the front
 abbrev pub digits_front : List ℕ → List ℕ

@@ -1,6 +1,6 @@
 -- A line of LRAT text: `ID LITERALS 0 HINTS 0`, which adds a clause, or `ID d IDS 0`, which deletes clauses.
 use Rattle.std.specs.Prelude.{◌≡◌, ◌-◌, ◌==◌, ◌||◌, not, ℕ, Bool, true, false, List, [], ◌∷◌, map, filter, drop, length, nat_le, codes, Option, Some, None, option_map, option_and_then, if◌then◌else◌}
-use Rattle.std.specs.List.{list_any, list_all}
+use Rattle.std.specs.List.{list_any}
 use Rattle.clause_base.specs.Literal.{literal_of}
 use Rattle.lrat_text.specs.declared.words.Signed.{Signed}
 use Rattle.lrat_text.specs.declared.line.Line.{Line}

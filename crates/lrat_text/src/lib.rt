@@ -6,4 +6,5 @@
 
 pub mod line;
 pub mod lines;
+mod short;
 pub mod words;

@@ -4,6 +4,7 @@ ghost use Rattle.std.specs.Char.{is_ascii_digit};
 ghost use Rattle.lrat_text.specs.Words.{is_blank, words_of, value_of, value_with, natural_of, first_number, begins_with};
 ghost use Rattle.lrat_text.specs.Cut.{after_blanks, digits_front, after_digits, word_front, after_word, ends_word};
 
+use crate::short::short_number;
 use std::marker::Model;
 
 /// So many digits write a number below 2^64, whatever they are.
@@ -214,11 +215,29 @@ impl<'a> Words<'a> {
         ensures passed { IfSome result (λ _. self.new ≡ drop 1 self.old) }
         ensures fewer { IfSome result (λ _. length self.new < length self.old) }
     {
+        if let Some((number, rest)) = short_number(self.rest) {
+            self.rest = rest;
+            return Some(Signed {
+                minus: false,
+                number,
+            });
+        }
+        self.any_number()
+    }
+
+    // The number that is the next word, of whatever length.
+    #[inline(never)]
+    fn any_number(&mut self) -> Option<Signed>
+        ensures number { result ≡ first_number self.old }
+        ensures passed { IfSome result (λ _. self.new ≡ drop 1 self.old) }
+        ensures fewer { IfSome result (λ _. length self.new < length self.old) }
+    {
         let word = after_blanks(self.rest);
         match after_byte(word, b'-') {
             None => {
                 let (number, rest) = natural_of(word)?;
-                self.rest = rest;
+                let left = after_blanks(rest);
+                self.rest = left;
                 Some(Signed {
                     minus: false,
                     number,
@@ -229,7 +248,8 @@ impl<'a> Words<'a> {
                 if number == 0 {
                     return None;
                 }
-                self.rest = rest;
+                let others = after_blanks(rest);
+                self.rest = others;
                 Some(Signed {
                     minus: true,
                     number,

@@ -1,5 +1,5 @@
 -- The bytes one after another lead to what the tokens of all of them say.
-use Rattle.std.proofs.Common.{◌≡◌, ℕ, ◌+◌, ◌<◌, Bool, true, false, cond, List, [], ◌∷◌, ◌++◌, length, Result, Ok, Err, refl, sym, ap, ◌∙◌, append_assoc, append-nil, arith}
+use Rattle.std.proofs.Common.{◌≡◌, ℕ, ◌+◌, ◌<◌, Bool, true, false, cond, List, [], ◌∷◌, ◌++◌, length, Result, Ok, Err, Option, Some, None, refl, sym, ap, ◌∙◌, append_assoc, append-nil, arith}
 use Rattle.std.specs.Prelude.{◌==◌, drop, slice_index}
 use Rattle.std.proofs.lemmas.Bool.{eqb-true, eq-eqb}
 use Rattle.std.proofs.lemmas.List.{drop_more}
@@ -9,11 +9,8 @@ use Rattle.pd_sexp.proofs.Bytes.{letter-blank, letter-semicolon}
 use Rattle.pd_words.specs.Typed.{named}
 use Rattle.pd_words.specs.declared.named.Named.{Named}
 use Rattle.pd_plan.specs.declared.lists.WordList.{WordList}
-use Rattle.pd_plan.specs.declared.fault.PlanFault.{PlanFault}
-use Rattle.pd_plan.specs.declared.fault.PlanFault.TheVariants as error
 use Rattle.pd_plan.specs.Fault.{Fault, syntax}
-use Rattle.pd_words.specs.First.{◌>>=◌, after}
-use Rattle.pd_plan.specs.Answers.{Fails}
+use Rattle.pd_words.specs.First.{◌>>=◌, after, FailsWith}
 use Rattle.pd_plan.specs.Tokens.{Token, opening, closing, word, wrong, sign, joined, tokens}
 use Rattle.pd_plan.specs.WordLists.{word_list, lists, list_on, word_lists}
 use Rattle.pd_plan.specs.Progress as at
@@ -201,12 +198,9 @@ module _ (bytes : List ℕ) (o : ℕ) (s : State) (reached : Reached bytes o s) 
   pub reached_next : (t : State) → o < length bytes → step s o (slice_index bytes o) ≡ Ok t → Reached bytes (o + 1) t
   reached_next t within is = rw is at (next_byte within)
 
-  pub fails_there : (e : PlanFault) → o < length bytes → Fails e (step s o (slice_index bytes o)) → Fails e (word_lists bytes)
-  fails_there (error.Syntax p) within is = sym (rw is at (next_byte within))
-  fails_there (error.Unknown p) within is = sym (rw is at (next_byte within))
-  fails_there (error.Arity p) within is = sym (rw is at (next_byte within))
-  fails_there (error.Mistyped p) within is = sym (rw is at (next_byte within))
-  fails_there error.Memory within is = tt
+  pub fails_there : (fault : Option Fault) → o < length bytes → FailsWith fault (step s o (slice_index bytes o)) → FailsWith fault (word_lists bytes)
+  fails_there (Some fault) within is = sym (rw is at (next_byte within))
+  fails_there None within is = tt
 
   pub at_end : drop o bytes ≡ [] → finished s (length bytes) ≡ word_lists bytes
   at_end none = sym (no_byte (length bytes) s o) ∙ ap (answer (length bytes) s o) (sym none) ∙ reached

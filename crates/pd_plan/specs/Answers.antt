@@ -1,6 +1,6 @@
 -- What the calls of the reader answer.
 use Rattle.std.specs.Prelude.{Option, Some, None, Result}
-use Rattle.pd_words.specs.First.{FailsWith, LeavesOr}
+use Rattle.pd_words.specs.First.{LeavesOr}
 use Rattle.pd_plan.specs.Fault.{Fault, syntax, unknown, arity, mistyped}
 use Rattle.pd_plan.specs.declared.fault.PlanFault.{PlanFault}
 use Rattle.pd_plan.specs.declared.fault.PlanFault.TheVariants.{Syntax, Unknown, Arity, Mistyped, Memory}
@@ -12,10 +12,6 @@ fault_of (Unknown at) = Some (unknown at)
 fault_of (Arity at) = Some (arity at)
 fault_of (Mistyped at) = Some (mistyped at)
 fault_of Memory = None
-
--- A call failed with the fault that reading gives, or for want of memory.
-abbrev pub Fails : {X : Type 0} → PlanFault → Result X Fault → Type 0
-Fails e read = FailsWith (fault_of e) read
 
 -- A call returned what reading gives, unless memory ran out.
 abbrev pub Gives : {X : Type 0} → Result X Fault → Result X PlanFault → Type 0

@@ -1,5 +1,6 @@
 // Why trees are no task.
 ghost use Rattle.std.specs.Prelude.{◌≡◌};
+ghost use Rattle.pd_words.specs.First.{Gives, wants};
 ghost use Rattle.pd_words.specs.declared.fault.ReadError.TheVariants.{Memory};
 
 use std::alloc::{AllocError, AllocFailed};
@@ -40,5 +41,16 @@ impl<T: Drop> From<AllocFailed<T>> for ReadError {
 
     fn from(_: AllocFailed<T>) -> Self {
         ReadError::Memory
+    }
+}
+
+/// The fault, where what reading wants is not so.
+pub(crate) fn wants(is: bool, fault: Fault) -> Result<(), ReadError>
+    ensures { Gives (wants is fault) result }
+{
+    if is {
+        Ok(())
+    } else {
+        Err(ReadError::Fault(fault))
     }
 }

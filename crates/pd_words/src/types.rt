@@ -9,7 +9,7 @@ ghost use Rattle.pd_words.specs.TypeList.{declared};
 ghost use Rattle.pd_words.specs.declared.fault.ReadError.TheVariants as errors;
 
 use crate::ancestors::{ancestors, is_rooted};
-use crate::fault::{Fault, ReadError};
+use crate::fault::{Fault, ReadError, wants};
 use crate::named::{Named, copy_name};
 use crate::table::Table;
 use crate::typed::{OBJECT, TypedList, read_type_name, read_typed};
@@ -100,9 +100,7 @@ impl TypedList for Declared {
 
     #[tactic(auto, using(crate::proofs::NameLemmas::number_none))]
     fn admit(&mut self, alloc: Global, word: &Named) -> Result<(), ReadError> {
-        if !is_name(&word.name) {
-            return Err(ReadError::Fault(Fault::Shape(word.at)));
-        }
+        wants(is_name(&word.name), Fault::Shape(word.at))?;
         if is_object(&word.name) {
             return Ok(());
         }

@@ -4,7 +4,7 @@ ghost use Rattle.pd_sexp.specs.View.{view, views};
 ghost use Rattle.pd_words.specs.First.{Gives, GivesAs};
 ghost use Rattle.pd_words.specs.Typed as typed;
 
-use crate::fault::{Fault, ReadError};
+use crate::fault::{Fault, ReadError, wants};
 use crate::named::Named;
 use crate::number::next_number;
 use crate::table::Table;
@@ -68,9 +68,7 @@ impl TypedList for Variables {
     // Takes a variable that stands for the first time.
     #[tactic(auto, using(crate::proofs::NameLemmas::number_none))]
     fn admit(&mut self, alloc: Global, word: &Named) -> Result<(), ReadError> {
-        if !is_variable(&word.name) {
-            return Err(ReadError::Fault(Fault::Shape(word.at)));
-        }
+        wants(is_variable(&word.name), Fault::Shape(word.at))?;
         if self.names.number(&word.name).is_some() {
             return Err(ReadError::Fault(Fault::Duplicate(word.at)));
         }
@@ -137,9 +135,7 @@ impl TypedList for Arguments {
     ghost untyped = { typed.object };
 
     fn admit(&mut self, _: Global, word: &Named) -> Result<(), ReadError> {
-        if !is_variable(&word.name) {
-            return Err(ReadError::Fault(Fault::Shape(word.at)));
-        }
+        wants(is_variable(&word.name), Fault::Shape(word.at))?;
         self.count = next_number(self.count)?;
         Ok(())
     }

@@ -3,7 +3,6 @@ ghost use Rattle.std.specs.Prelude.{◌≡◌, ◌≤◌, length, IfOk};
 ghost use Rattle.input_files.specs.Limits.{most_bytes};
 ghost use Rattle.certificates.specs.Certificate.{IsSpelled};
 ghost use Rattle.input_files.specs.Ends.{EndsAs, StopsBy};
-ghost use Rattle.pd_model.specs.WellFormed.{IsWellFormed};
 ghost use Rattle.plan_answers.specs.Answers.{AnswersProve, AnswersVerify, RefusesProof, ending_of_run, ending_of_check};
 ghost use Rattle.plan_answers.specs.Tasks.{OnceRead, OnceGrounded};
 
@@ -11,7 +10,6 @@ use certificates::ProofError;
 use certificates::prove::{Proved, prove};
 use certificates::verify::{Judged, verify};
 use input_files::stop::{Stop, refuse};
-use pd_model::Pddl;
 use pl_io::Bytes;
 use plan_endings::{Ending, File, Kind};
 use plan_tasks::ground::ground_task;
@@ -69,26 +67,12 @@ pub(crate) fn answer_verify<H: Threads + Sync>(
     ensures { EndsAs (OnceRead domain.now problem.now (λ task. AnswersVerify task proof.now)) result }
 {
     let task = read_task(alloc, domain, problem)?;
-    verify_task(rt, alloc, &task, proof)
-}
-
-// What a task comes to for the command `verify`, with the bytes of a certificate.
-fn verify_task<H: Threads + Sync>(
-    rt: &H,
-    alloc: Global,
-    task: &Pddl,
-    bytes: &[u8],
-) -> Result<Ending, Stop>
-    requires fits { length bytes.now ≤ 16777216 }
-    requires well_formed { IsWellFormed task.now }
-    ensures { EndsAs (AnswersVerify task.now bytes.now) result }
-{
-    let proof = read_certificate(alloc, bytes)?;
-    let grounded = ground_task(alloc, task)?;
-    match verify(rt, alloc, grounded.task(), &proof) {
-        Ok(judged) => Ok(check_ending(proof.horizon, judged)),
+    let log = read_certificate(alloc, proof)?;
+    let grounded = ground_task(alloc, &task)?;
+    match verify(rt, alloc, grounded.task(), &log) {
+        Ok(judged) => Ok(check_ending(log.horizon, judged)),
         Err(ProofError::Literals { count }) => Ok(Ending::TooLarge {
-            horizon: proof.horizon,
+            horizon: log.horizon,
             count,
         }),
         Err(ProofError::Memory) => Err(Stop::Memory),

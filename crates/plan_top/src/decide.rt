@@ -6,19 +6,17 @@ ghost use Rattle.requests.specs.Requested.{requested, command_named};
 ghost use Rattle.requests.specs.Seen.{IsSized, files_of, seen};
 ghost use Rattle.input_files.specs.Files.{NotesAmong};
 ghost use Rattle.plan_top.specs.Causes.{Comes, AskForBatch, names_in};
-ghost use Rattle.plan_top.specs.Parts.{IsBatch};
 ghost use Rattle.input_files.specs.Ends.{EndsAs};
 
 use crate::Ending;
 use crate::batch::answer_batch;
-use horizon_rates::Settings;
 use input_files::first::take_first;
 use input_files::stop::Stop;
 use input_files::take::take_all;
 use pl_io::{Bytes, Shelf};
 use plan_answers::answer::answer;
 use poll_batch::Driver;
-use requests::{Request, Turns, read_words};
+use requests::{Request, read_words};
 use solver_pool::Gate;
 use std::alloc::Global;
 use std::sync::Wait;
@@ -73,58 +71,22 @@ fn decide_request<H: Threads + Wait + Sync, S: Shelf, G: Gate, D: Driver>(
             settings,
             turns,
             ..
-        } => decide_batch(rt, alloc, request, settings, *turns, shelf, driver),
-        _ => decide_one(rt, alloc, request, shelf, gate),
+        } => {
+            let mut files = take_all::<Option<Bytes>, S>(alloc, request, shelf)?;
+            let domain = take_first(&mut files);
+            answer_batch(
+                rt,
+                alloc,
+                driver,
+                &domain,
+                files.as_slice(),
+                settings,
+                *turns,
+            )
+        }
+        _ => {
+            let texts = take_all::<Bytes, S>(alloc, request, shelf)?;
+            answer(rt, alloc, request, &texts, gate)
+        }
     }
-}
-
-// The same where one task is asked for.
-fn decide_one<H: Threads + Wait + Sync, S: Shelf, G: Gate>(
-    rt: &H,
-    alloc: Global,
-    request: &Request<'_>,
-    shelf: &mut S,
-    gate: &G,
-) -> Result<Ending, Stop>
-    requires sized { IsSized (seen request.now) }
-    requires of_one { IsOfOne (seen request.now) }
-    ensures cause { (took : List Heard) → S.heard shelf.new ≡ S.heard shelf.old ++ took → (words : List (List ℕ)) → requested words ≡ Some (seen request.now) → EndsAs (Comes took (S.failed shelf.old) (S.failed shelf.new) words) result }
-    ensures agrees { Agrees (S.told shelf.old) (S.lacks shelf.old) (S.heard shelf.old) (S.heard shelf.new) }
-    ensures told { S.told shelf.new ≡ S.told shelf.old }
-    ensures lacks { S.lacks shelf.new ≡ S.lacks shelf.old }
-    ensures noted { NotesAmong (files_of (seen request.now)) (S.failed shelf.old) (S.failed shelf.new) }
-{
-    let files = take_all::<Bytes, S>(alloc, request, shelf)?;
-    answer(rt, alloc, request, &files, gate)
-}
-
-// The same of a batch with these settings.
-fn decide_batch<H: Threads + Wait + Sync, S: Shelf, D: Driver>(
-    rt: &H,
-    alloc: Global,
-    request: &Request<'_>,
-    settings: &Settings,
-    turns: Turns,
-    shelf: &mut S,
-    driver: &mut D,
-) -> Result<Ending, Stop>
-    requires { IsBatch settings.now turns (seen request.now) }
-    ensures cause { (took : List Heard) → S.heard shelf.new ≡ S.heard shelf.old ++ took → (words : List (List ℕ)) → requested words ≡ Some (seen request.now) → EndsAs (Comes took (S.failed shelf.old) (S.failed shelf.new) words) result }
-    ensures agrees { Agrees (S.told shelf.old) (S.lacks shelf.old) (S.heard shelf.old) (S.heard shelf.new) }
-    ensures told { S.told shelf.new ≡ S.told shelf.old }
-    ensures lacks { S.lacks shelf.new ≡ S.lacks shelf.old }
-    ensures noted { NotesAmong (files_of (seen request.now)) (S.failed shelf.old) (S.failed shelf.new) }
-    ensures drives { D.faults driver.old ≤ D.faults driver.new }
-{
-    let mut files = take_all::<Option<Bytes>, S>(alloc, request, shelf)?;
-    let domain = take_first(&mut files);
-    answer_batch(
-        rt,
-        alloc,
-        driver,
-        &domain,
-        files.as_slice(),
-        settings,
-        turns,
-    )
 }

@@ -200,39 +200,20 @@ pub fn run<H: Threads + Wait + Sync, S: Shelf, K: Sink, G: Gate, D: Driver>(
         → (Rose (K.faults sink.old) (K.faults sink.new) → ⊥) → (result.0 ≡ 8) ⊎ ((end : Ending) × (result.0 ≡ status_of end) × IsGood well.request end × (K.taken sink.new ≡ appended (K.taken sink.old) (text_of end))) }
 {
     laws();
-    answered(rt, alloc, words, shelf, sink, gate, driver)
+    finish(alloc, decide(rt, alloc, words, shelf, gate, driver), sink)
 }
 
-// Decides how the run ends, and writes the text of that.
-fn answered<H: Threads + Wait + Sync, S: Shelf, K: Sink, G: Gate, D: Driver>(
-    rt: &H,
-    alloc: Global,
-    words: &[String],
-    shelf: &mut S,
-    sink: &mut K,
-    gate: &G,
-    driver: &mut D,
-) -> Status
-    ensures due { (took : List Heard) → S.heard shelf.new ≡ S.heard shelf.old ++ took → result.0 ≢ 6 → result.0 ≢ 8 → (end : Ending) × (result.0 ≡ status_of end)
-        × Comes took (S.failed shelf.old) (S.failed shelf.new) (map string_bytes words.now) end
-        × (K.taken sink.new ≡ appended (K.taken sink.old) (text_of end)) }
-    ensures agrees { Agrees (S.told shelf.old) (S.lacks shelf.old) (S.heard shelf.old) (S.heard shelf.new) }
+// Writes the text of an ending, answered or handed on.
+fn finish<K: Sink>(alloc: Global, decided: Result<Ending, Stop>, sink: &mut K) -> Status
+    requires { (end : Ending) → ending_in decided ≡ Some end → (status_of end ≢ 6) × (status_of end ≢ 8) }
+    ensures due { result.0 ≢ 6 → result.0 ≢ 8 → (end : Ending) × (result.0 ≡ status_of end) × (ending_in decided ≡ Some end) × (K.taken sink.new ≡ appended (K.taken sink.old) (text_of end)) }
     ensures write_fault { result.0 ≡ 6 → Rose (K.faults sink.old) (K.faults sink.new) }
-    ensures front { (took : List Heard) → S.heard shelf.new ≡ S.heard shelf.old ++ took → result.0 ≢ 8 → (end : Ending)
-        × Comes took (S.failed shelf.old) (S.failed shelf.new) (map string_bytes words.now) end
-        × IsSmall end × TakesFront (K.taken sink.old) (K.taken sink.new) (text_of end) }
+    ensures front { result.0 ≢ 8 → (end : Ending) × (ending_in decided ≡ Some end) × IsSmall end × TakesFront (K.taken sink.old) (K.taken sink.new) (text_of end) }
     ensures nothing { result.0 ≡ 8 → sink.new ≡ sink.old }
-    ensures no_command { command_named (map string_bytes words.now) ≡ None → result.0 ≢ 8 }
-    ensures untouched { requested (map string_bytes words.now) ≡ None → shelf.new ≡ shelf.old }
-    ensures noted { NotesAmong (names_in (map string_bytes words.now)) (S.failed shelf.old) (S.failed shelf.new) }
-    ensures told { S.told shelf.new ≡ S.told shelf.old }
-    ensures lacks { S.lacks shelf.new ≡ S.lacks shelf.old }
-    ensures never_falls { (name : List ℕ) → fault_count name (S.failed shelf.old) ≤ fault_count name (S.failed shelf.new) }
+    ensures usage { ending_in decided ≡ Some Ending.Usage → result.0 ≢ 8 }
     ensures faults { K.faults sink.old ≤ K.faults sink.new }
-    ensures drives { D.faults driver.old ≤ D.faults driver.new }
-    ensures idle { (AskForBatch (map string_bytes words.now) → ⊥) → driver.new ≡ driver.old }
 {
-    let Some(ending) = ended(decide(rt, alloc, words, shelf, gate, driver)) else {
+    let Some(ending) = ended(decided) else {
         return Status(8);
     };
     written(alloc, ending, sink)

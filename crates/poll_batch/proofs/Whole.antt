@@ -33,16 +33,9 @@ pub whole : {F : Type 0} (g : Ghosts F) (form : F) (settings : Settings) (task :
     → IfOk r (λ end. WherePlanned end (λ h steps. AreActions task steps))
     → ((h n : ℕ) → r ≡ Err (Literals h n) → (race_of (input_of g form settings) ≡ TooLarge h) × (n ≡ literals_of (g.formula_of form h)) × (planner_literals < n))
     → Gives g form settings r
-whole g form settings task (Ok end) of gives lines refuted sums modelled plan long members literals = record {
-  gives = gives;
-  lines = lines;
-  refuted = refuted;
-  sums = sums;
-  modelled = modelled;
-  plan = plan;
-  long = long;
-  members = subst (λ (t : Task). WherePlanned end (λ h steps. AreActions t steps)) (sym of) members;
-}
+whole g form settings task (Ok end) of gives lines refuted sums modelled plan long members literals =
+    let of_form : WherePlanned end (λ h steps. AreActions (g.task form) steps) = subst (λ (t : Task). WherePlanned end (λ h steps. AreActions t steps)) (sym of) members in
+    assumption (of_form)
 whole g form settings task (Err (Literals h n)) of gives lines refuted sums modelled plan long members literals = literals h n refl
 whole g form settings task (Err Memory) of gives lines refuted sums modelled plan long members literals = tt
 

@@ -1,25 +1,20 @@
 -- A polled race comes to an end.
-use Rattle.std.proofs.Common.{arith, ◌≡◌, ℕ, ◌+◌, ◌-◌, ◌*◌, ◌<◌, ◌≤◌, List, [], ◌∷◌, ◌++◌, length, ap, sym, inl, inr, ◌∙◌, Option, Some, None}
+use Rattle.std.proofs.Common.{arith, ◌≡◌, ℕ, ◌+◌, ◌-◌, ◌<◌, ◌≤◌, List, [], ◌∷◌, length, ap, sym, subst, inl, inr, ◌∙◌, Option, Some, None}
 use Rattle.std.proofs.lemmas.List.{length-append}
 use Rattle.std.specs.Option.{IsSomeAnd}
-use Rattle.std.specs.List.{AllByRecursion}
-use Rattle.horizon_rates.specs.Ledger.{left_of, SumsToBudget}
 use Rattle.horizon_run.specs.Run.{RunView}
-use Rattle.race.specs.Begun.{HasRun}
 use Rattle.race.specs.Input.{RaceInput}
-use Rattle.race.specs.Tied.{IsBetween}
-use Rattle.race.specs.Runs.{moved_all}
 use Rattle.race.proofs.Advances.{length-moved}
 use Rattle.poll_race.specs.declared.phase.Phase.{Phase}
 use Rattle.poll_race.specs.declared.phase.Phase.TheVariants.{Between, Within, Given}
 use Rattle.poll_race.specs.declared.round.Round.{Round}
 use Rattle.poll_race.specs.declared.work.Work.{Work}
 use Rattle.poll_race.specs.Numbers.{Numbers, IsBelow, IsBounded, polls_left}
-use Rattle.poll_race.specs.Works.{at_targets, granted_now, IsAtWork, AreAtWork}
+use Rattle.poll_race.specs.Works.{at_targets, granted_now, AreAtWork}
 use Rattle.poll_race.specs.Tied.{IsTied, IsWithin, numbers_at}
 
 -- of a race that is further fewer polls are left
-pub falls : (budget : ℕ) (m n : Numbers) → IsBelow m n → IsBounded budget n → polls_left budget n < polls_left budget m
+falls : (budget : ℕ) (m n : Numbers) → IsBelow m n → IsBounded budget n → polls_left budget n < polls_left budget m
 falls budget m n (inl more) b = let e = b.ended in omega (arith, more, e)
 falls budget m n (inr (same, inl more)) b = let e = b.begun in omega (arith, more, same, e)
 falls budget m n (inr (same, inr (same2, inl more))) b = let e = b.done in omega (arith, more, same, same2, e)
@@ -54,10 +49,18 @@ within_bounds slice input round has =
     }
 
 -- and a race wherever it is
-pub bounded : (slice : ℕ) (input : RaceInput) (phase : Phase) → IsTied slice input phase → IsBounded input.budget (numbers_at phase)
+bounded : (slice : ℕ) (input : RaceInput) (phase : Phase) → IsTied slice input phase → IsBounded input.budget (numbers_at phase)
 bounded slice input (Between racing) tied =
     let few = tied.few in
     let spent = tied.tied.within in
     record { ended = omega (arith, few, spent); begun = omega arith; done = omega arith; granted = omega arith }
 bounded slice input (Within round) tied = within_bounds slice input round tied
 bounded slice input Given tied = record { ended = omega arith; begun = omega arith; done = omega arith; granted = omega arith }
+
+-- a poll that puts back a later phase than it took out leaves fewer
+pub falls_to : (slice : ℕ) (input : RaceInput) (was phase next place : Phase) → was ≡ phase → place ≡ next → IsTied slice input next → IsBelow (numbers_at was) (numbers_at next)
+    → polls_left input.budget (numbers_at place) < polls_left input.budget (numbers_at phase)
+falls_to slice input was phase next place took put tied below =
+    falls input.budget (numbers_at phase) (numbers_at place)
+    (subst (λ (p : Phase × Phase). IsBelow (numbers_at p.0) (numbers_at p.1)) (λ i. (took i, sym put i)) below)
+    (bounded slice input place (subst (IsTied slice input) (sym put) tied))

@@ -1,5 +1,5 @@
 -- One poll of the run at hand, as contracts see it.
-use Rattle.std.proofs.Common.{◌≡◌, ℕ, ◌+◌, false, List, [], ◌∷◌, length, Option, Some, None, inl, inr, refl, sym, ap, ◌∙◌, subst}
+use Rattle.std.proofs.Common.{◌≡◌, ℕ, ◌+◌, false, List, ◌∷◌, Option, Some, None, inl, inr, refl, sym, ap, ◌∙◌, subst}
 use Rattle.std.specs.Option.{IsSomeAnd}
 use Rattle.horizon_run.specs.Run.{RunView, moved_to}
 use Rattle.ahead_run.specs.contracts.resume.AheadRunResume.TheImpl.{ghosts}

@@ -3,10 +3,7 @@ ghost use Rattle.std.specs.Prelude.{◌≡◌, ◌≤◌, ◌<◌, ◌∷◌, fa
 ghost use Rattle.futures.specs.Task.{Keeps};
 ghost use Rattle.horizon_run.specs.Run.{moved_to};
 ghost use Rattle.race.specs.Input.{input_of};
-ghost use Rattle.poll_race.specs.Numbers.{IsBelow};
-ghost use Rattle.poll_race.specs.OnePoll.{PollsRun};
-ghost use Rattle.poll_race.specs.Tied.{IsWithin, numbers_of};
-ghost use Rattle.poll_race.specs.Works.{polls_of};
+ghost use Rattle.poll_race.specs.{Numbers.IsBelow, OnePoll.PollsRun, Tied.IsWithin, Tied.numbers_of, Works.polls_of};
 
 use crate::work::Work;
 use ahead_run::AheadRun;

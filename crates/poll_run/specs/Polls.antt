@@ -24,7 +24,7 @@ module _ {R : Type 0} (g : Ghosts R) where
 
   -- it is a run of the same horizon and origin
   abbrev pub IsSame : R → R → Type 0
-  IsSame before after = (g.horizon_of after ≡ g.horizon_of before) × (g.origin_of after ≡ g.origin_of before)
+  IsSame before after = (g.key_of after ≡ g.key_of before) × (g.origin_of after ≡ g.origin_of before)
 
   -- unless it found no memory, the run was granted a slice more, or what was left to its target, and is where so much has it
   abbrev pub GoesNext : (slice target : ℕ) → R → R → Type 0

@@ -1,5 +1,5 @@
 -- What the members of a set ask for, as the set, the trail and the clauses change.
-use Rattle.std.proofs.Common.{arith, ◌≡◌, ◌==◌, ℕ, ◌*◌, ◌<◌, ◌≤◌, List, [], ◌∷◌, ◌++◌, length, set, get_or, Bool, true, false, ◌||◌, refl, sym, ap}
+use Rattle.std.proofs.Common.{arith, ◌≡◌, ◌==◌, ℕ, ◌*◌, ◌<◌, ◌≤◌, List, [], ◌∷◌, ◌++◌, length, set, get_or, Bool, true, false, not, ◌||◌, ◌&&◌, ◌⊎◌, refl, sym, ap}
 use Rattle.std.proofs.Common.{◌∙◌, subst, inl, inr, length-set, get_or-set_same, get_or-set_other}
 use Rattle.std.proofs.lemmas.List.{length_push}
 use Rattle.clause_base.specs.Clause.{has_literal}
@@ -7,7 +7,7 @@ use Rattle.cdcl_rules.specs.State.{clause_at}
 use Rattle.bit_sets.specs.Layered.{words_have}
 use Rattle.propagation.specs.declared.pending.Pending.{Pending}
 use Rattle.propagation.specs.declared.enter.Entered.{Entered}
-use Rattle.propagation.specs.Asks.{IsAsk, IsWithin, HasAsks, IsPut, IsWider}
+use Rattle.propagation.specs.Asks.{IsAsk, IsWithin, HasAsks, IsPut, IsWider, IsWithout}
 use Rattle.propagation.specs.Added.{IsRaised}
 use Rattle.propagation.proofs.Assigns.{equal_of, apart_of, true_longer}
 use Rattle.propagation.proofs.Adds.{at_other, at_own}
@@ -105,3 +105,21 @@ asks_add cl k trail number entered old new a e room long (inl r) is =
     (subst (λ (xs : List ℕ). IsAsk (has_literal trail) xs entered.ask) (sym (at_own cl k number e)) (is r.0))
 asks_add cl k trail number entered old new a e room long (inr r) is =
     subst (λ (p : Pending). HasAsks (cl ++ k ∷ []) trail p) (sym r.1) (asks_more cl k trail old a (omega (arith, e, room)) (omega (arith, e, long)))
+
+-- without the member that asks for a literal all others are there
+pub cleaned_others : (was is : ℕ → Bool) (asks : List ℕ) (n ask : ℕ) → ((k : ℕ) → is k ≡ (not (k == n) && was k)) → get_or asks n 0 ≡ ask → (k : ℕ)
+    → was k ≡ true → (is k ≡ true) ⊎ (get_or asks k 0 ≡ ask)
+cleaned_others was is asks n ask has own k h = by (k == n) refl
+  where
+    by : (b : Bool) → (k == n) ≡ b → (is k ≡ true) ⊎ (get_or asks k 0 ≡ ask)
+    by true f = inr (ap (λ (i : ℕ). get_or asks i 0) (equal_of k n f) ∙ own)
+    by false f = inl (has k ∙ ap (λ (b : Bool). not b && was k) f ∙ h)
+
+-- those that ask for a literal may be gone
+pub asks_without : (cl : List (List ℕ)) (trail : List ℕ) (x : ℕ) (old new : Pending) → HasAsks cl trail old → IsWithout x old new → HasAsks cl trail new
+asks_without cl trail x old new a w = record {
+  within = λ k h. a.within k (w.fewer k h);
+  are = λ k h. subst (λ (xs : List ℕ). IsAsk (has_literal trail) (clause_at cl k) (get_or xs k 0)) (sym w.asks) (a.are k (w.fewer k h));
+  room = omega (arith, a.room, w.room);
+  long = omega (arith, a.long, ap (λ (xs : List ℕ). length xs) w.asks);
+}

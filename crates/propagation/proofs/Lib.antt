@@ -13,7 +13,9 @@ pub mod Sounds
 pub mod Founds
 pub mod Asks
 pub mod AsksKept
+pub mod Gone
 pub mod Scans
 pub mod Fronts
 pub mod Givens
 pub mod Templates
+pub mod Knowns

@@ -29,7 +29,7 @@ and_by : (a b c : Bool) → (a ≡ true → c ≡ true) → (a && b) ≡ true �
 and_by true b c h e = let t : c ≡ true = h refl in ap (λ (x : Bool). x && b) t ∙ e
 and_by false b c h e = cc
 
-pending_before : (cl : List (List ℕ)) (kept : List Bool) (trail : List ℕ) (n k : ℕ) → is_pending_on cl (set kept n false) trail k ≡ true
+pub pending_before : (cl : List (List ℕ)) (kept : List Bool) (trail : List ℕ) (n k : ℕ) → is_pending_on cl (set kept n false) trail k ≡ true
     → is_pending_on cl kept trail k ≡ true
 pending_before cl kept trail n k e = pending_at cl kept trail k ∙ and_by (get_or (set kept n false) k false)
     (is_pending (has_literal trail) (clause_at cl k)) (get_or kept k false) (kept_before kept n k) (sym (pending_at cl (set kept n false) trail k) ∙ e)
@@ -61,10 +61,10 @@ removed_sound v t t' l trail quiet n i store slots kept = record {
     on = i.rest.on;
     linked = i.rest.linked;
     long = i.rest.long;
+    there = λ node real must. i.rest.there node real (flags_before t.kept.items t.slots.items n _ must);
     codes = i.rest.codes;
     many = i.rest.many;
     real = i.rest.real;
-    there = λ node real must. i.rest.there node real (flags_before t.kept.items t.slots.items n _ must);
     blockings = i.rest.blockings;
     apart = i.rest.apart;
   });

@@ -1,5 +1,5 @@
 -- The tables where the trail is taken back: the watched literals stay right, and the set is found anew.
-use Rattle.std.proofs.Common.{arith, ◌≡◌, ℕ, zero, suc, [], ◌∷◌, ◌≤◌, List, Bool, length, take, refl, sym, ap, ◌∙◌, subst}
+use Rattle.std.proofs.Common.{arith, ◌≡◌, ℕ, zero, suc, [], ◌∷◌, ◌*◌, ◌≤◌, List, Bool, length, take, refl, sym, ap, ◌∙◌, subst}
 use Rattle.std.proofs.lemmas.List.{take_all, take-take, take-map, length-take-le, length-map}
 use Rattle.cdcl_rules.specs.declared.trail.Assigned.{Assigned}
 use Rattle.cdcl_trail.specs.Assignment.{literals}
@@ -11,10 +11,11 @@ use Rattle.propagation.specs.declared.pending.Pending.{Pending}
 use Rattle.propagation.specs.declared.tables.Tables.{Tables}
 use Rattle.propagation.specs.declared.visit.Lists.{Lists}
 use Rattle.propagation.specs.Asks.{HasAsks, IsConsistent}
-use Rattle.propagation.specs.Front.{IsComplete}
+use Rattle.propagation.specs.Front.{IsComplete, StayWhere}
 use Rattle.propagation.specs.Sound.{AreFree, AreSound}
-use Rattle.propagation.specs.Tables.{clauses_in, flags_in, pending_in}
+use Rattle.propagation.specs.Tables.{AreTables, clauses_in, flags_in, pending_in}
 use Rattle.propagation.proofs.Asks.{consistent_take}
+use Rattle.propagation.proofs.Knowns.{stay_complete}
 
 -- a trail that is taken back is a prefix
 take_taken : (n : ℕ) (xs : List ℕ) → take (length (take n xs)) xs ≡ take n xs
@@ -67,3 +68,23 @@ undo_sound v t l trail quiet m trail' p i e h asks complete = record {
 pub sound_set : (v : ℕ) (t : Tables) (l : Lists) (trail : List ℕ) (quiet : List Bool) (p : Pending) → AreSound v t l trail quiet
     → HasAsks t.store trail p → IsComplete (pending_in t trail) p → AreSound v t (record l { pending = p }) trail quiet
 sound_set v t l trail quiet p i asks complete = undo_sound v t l trail quiet (length trail) trail p i (sym (take_all (length trail) trail (omega arith))) (omega arith) asks complete
+
+-- of the set members go that are not pending
+pub sound_stay : (v : ℕ) (t : Tables) (l : Lists) (trail' trail : List ℕ) (quiet : List Bool) (p : Pending) → trail' ≡ trail
+    → AreSound v t l trail quiet → HasAsks t.store trail' p → StayWhere (pending_in t trail') l.pending p
+    → AreSound v t (record l { pending = p }) trail quiet
+sound_stay v t l trail' trail quiet p e i asks stay = sound_set v t l trail quiet p i (subst (λ (xs : List ℕ). HasAsks t.store xs p) e asks)
+    (stay_complete (pending_in t trail) l.pending p i.complete (subst (λ (xs : List ℕ). StayWhere (pending_in t xs) l.pending p) e stay))
+
+-- what holds of the tables as the assignment of the trail tells it
+pub record AreRead (v : ℕ) (t : Tables) (trail : List ℕ) (p : Pending) : Type 0 where
+  pub tables : AreTables t (2 * v)
+  pub consistent : IsConsistent trail
+  pub asks : HasAsks t.store trail p
+  pub complete : IsComplete (pending_in t trail) p
+
+pub read_as : (v : ℕ) (t : Tables) (l : Lists) (trail : List ℕ) (quiet : List Bool) (v' : ℕ) (trail' : List ℕ) → AreSound v t l trail quiet → v' ≡ v
+    → trail' ≡ trail → AreRead v' t trail' l.pending
+read_as v t l trail quiet v' trail' i e f =
+    subst (λ (n : ℕ). AreRead n t trail' l.pending) (sym e) (subst (λ (xs : List ℕ). AreRead v t xs l.pending) (sym f)
+    (record { tables = i.tables; consistent = i.consistent; asks = i.asks; complete = i.complete }))

@@ -1,8 +1,8 @@
 -- What the clauses of the set ask for: a member has one literal at most that is not false, the one that it asks for.
-use Rattle.std.specs.Prelude.{◌≡◌, ℕ, ◌*◌, ◌<◌, ◌≤◌, ◌==◌, ◌||◌, ◌⊎◌, List, [], length, Bool, true, false, slice_index, slice_set}
+use Rattle.std.specs.Prelude.{◌≡◌, ℕ, ◌*◌, ◌<◌, ◌≤◌, ◌==◌, ◌||◌, ◌⊎◌, List, [], length, Bool, true, false, Some, slice_index, slice_set}
 use Rattle.clause_base.specs.Literal.{opposite}
 use Rattle.clause_base.specs.Clause.{has_literal}
-use Rattle.bit_sets.specs.Layered.{words_have}
+use Rattle.bit_sets.specs.Layered.{IsLeast, words_have}
 use Rattle.propagation.specs.declared.pending.Pending.{Pending}
 use Rattle.propagation.specs.Pending.{is_free}
 use Rattle.cdcl_rules.specs.State.{clause_at}
@@ -46,3 +46,16 @@ pub record IsWider (old new : Pending) : Type 0 where
   pub asks : (k : ℕ) → k < length old.asks.items → slice_index new.asks.items k ≡ slice_index old.asks.items k
   pub more_numbers : length old.numbers ≤ length new.numbers
   pub more_asks : length old.asks.items ≤ length new.asks.items
+
+-- the least member of a set, which asks for a literal
+pub record IsLeastAsking (ask : ℕ) (p : Pending) : Type 0 where
+  pub number : ℕ
+  pub least : IsLeast (words_have p.numbers) (Some number)
+  pub asks : slice_index p.asks.items number ≡ ask
+
+-- members that ask for a literal may be gone from a set, and all others are there
+pub record IsWithout (ask : ℕ) (old new : Pending) : Type 0 where
+  pub fewer : (k : ℕ) → words_have new.numbers k ≡ true → words_have old.numbers k ≡ true
+  pub others : (k : ℕ) → words_have old.numbers k ≡ true → (words_have new.numbers k ≡ true) ⊎ (slice_index old.asks.items k ≡ ask)
+  pub asks : new.asks.items ≡ old.asks.items
+  pub room : length new.numbers ≡ length old.numbers

@@ -1,5 +1,5 @@
 -- The least clause that is kept and pending, and what it asks for.
-use Rattle.std.specs.Prelude.{◌≡◌, ℕ, List, Bool, true, false, length, Option, Some, None}
+use Rattle.std.specs.Prelude.{◌≡◌, ℕ, ◌&&◌, List, Bool, true, false, length, Option, Some, None}
 use Rattle.cdcl_rules.specs.declared.event.Event.{Event}
 use Rattle.cdcl_rules.specs.State.{clause_at}
 use Rattle.cdcl_rules.specs.Pending.{open_ones, is_pending_in, least_from}
@@ -24,3 +24,7 @@ IsAnswer passes event (Some e) = (passes ≡ true) × (e ≡ event)
 -- Each number that passes is in the set: no clause that is kept and pending is missed.
 abbrev pub IsComplete : (ℕ → Bool) → Pending → Type 0
 IsComplete passes p = (k : ℕ) → passes k ≡ true → words_have p.numbers k ≡ true
+
+-- each member that passes stays in the set
+abbrev pub StayWhere : (ℕ → Bool) → Pending → Pending → Type 0
+StayWhere passes old new = IsComplete (λ k. passes k && words_have old.numbers k) new

@@ -10,3 +10,4 @@ pub mod Sound
 pub mod Added
 pub mod Latest
 pub mod Given
+pub mod Known

@@ -4,11 +4,13 @@ ghost use Rattle.std.specs.Prelude.{◌≡◌, ◌*◌, ◌<◌, ◌≤◌, leng
 ghost use Rattle.clause_base.specs.Clause.{has_literal};
 ghost use Rattle.bit_sets.specs.Layered.{words_have};
 ghost use Rattle.propagation.specs.Asks.{HasAsks, IsAsk, IsConsistent};
-ghost use Rattle.propagation.specs.Front.{asked_at, first_asked, IsAnswer, IsComplete};
+ghost use Rattle.propagation.specs.Front.{asked_at, first_asked, IsAnswer, IsComplete, StayWhere};
+ghost use Rattle.propagation.specs.Known.{AreListed};
 ghost use Rattle.propagation.specs.Tables.{AreTables, pending_in};
 ghost use Rattle.propagation.specs.Visit.{Grows};
 ghost use Rattle.cdcl_rules.specs.State.{clause_at};
 
+use crate::known::scan_listed;
 use crate::pending::{NO_LITERAL, Pending};
 use crate::scan::ask_of;
 use crate::tables::Tables;
@@ -44,16 +46,15 @@ fn answer(tables: &Tables, assignment: &Assignment, number: u32, ask: u32) -> Op
     }
 }
 
-/// What the least clause asks for that is kept and pending. Lesser members that are not go.
+/// What the least member asks for that is kept and pending. Lesser members go.
 #[inline(always)]
 pub fn next(tables: &Tables, assignment: &Assignment, pending: &mut Pending) -> Option<Event>
     requires tables { AreTables tables.now (2 * assignment.now.variables) }
     requires consistent { IsConsistent assignment.now.trail }
     requires asks { HasAsks tables.now.store assignment.now.trail pending.old }
-    requires complete { IsComplete (pending_in tables.now assignment.now.trail) pending.old }
-    ensures first { result ≡ first_asked tables.now.store tables.now.kept.items (has_literal assignment.now.trail) }
+    ensures first { IsComplete (pending_in tables.now assignment.now.trail) pending.old → result ≡ first_asked tables.now.store tables.now.kept.items (has_literal assignment.now.trail) }
     ensures asks { HasAsks tables.now.store assignment.now.trail pending.new }
-    ensures complete { IsComplete (pending_in tables.now assignment.now.trail) pending.new }
+    ensures stay { StayWhere (pending_in tables.now assignment.now.trail) pending.old pending.new }
 {
     // For the proof: the numbers below it were taken, so that the loop ends.
     let mut low: u64 = 0;
@@ -75,7 +76,7 @@ pub fn next(tables: &Tables, assignment: &Assignment, pending: &mut Pending) -> 
 }
 
 /// Puts a clause into the set with what it asks for, if it is kept and pending.
-fn scan_one(tables: &Tables, assignment: &Assignment, pending: &mut Pending, number: u32)
+pub fn scan_one(tables: &Tables, assignment: &Assignment, pending: &mut Pending, number: u32)
     requires tables { AreTables tables.now (2 * assignment.now.variables) }
     requires inside { number < length tables.now.store }
     requires asks { HasAsks tables.now.store assignment.now.trail pending.old }
@@ -92,16 +93,25 @@ fn scan_one(tables: &Tables, assignment: &Assignment, pending: &mut Pending, num
     }
 }
 
-/// Puts the clauses that are kept and pending into a set, and takes all others out.
-pub fn rescan(tables: &Tables, assignment: &Assignment, pending: &mut Pending)
+/// Puts the clauses that are kept and pending into a set, and takes all others out. Of the clauses whose numbers are below `from`
+/// only the listed ones are looked at: no others are so.
+pub fn rescan(
+    tables: &Tables,
+    assignment: &Assignment,
+    pending: &mut Pending,
+    listed: &[u32],
+    from: u32,
+)
     requires tables { AreTables tables.now (2 * assignment.now.variables) }
     requires room { length tables.now.store ≤ 64 * length pending.old.numbers }
     requires long { length tables.now.store ≤ length pending.old.asks.items }
+    requires listed { AreListed (pending_in tables.now assignment.now.trail) listed.now from }
     ensures asks { HasAsks tables.now.store assignment.now.trail pending.new }
     ensures complete { IsComplete (pending_in tables.now assignment.now.trail) pending.new }
 {
     pending.clear();
-    for number in 0..tables.kept.len() as u32 {
+    scan_listed(tables, assignment, pending, listed);
+    for number in from..tables.kept.len() as u32 {
         scan_one(tables, assignment, pending, number);
     }
 }

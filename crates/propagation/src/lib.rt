@@ -16,6 +16,7 @@ mod enter;
 mod fall;
 mod front;
 mod given;
+pub mod known;
 mod marks;
 mod pending;
 pub mod propagator;

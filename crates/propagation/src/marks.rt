@@ -6,7 +6,7 @@ ghost use Rattle.bit_sets.specs.Layered.{words_have};
 ghost use Rattle.clause_store.specs.Pairs.{IsPairOf, pairs_of};
 ghost use Rattle.clause_store.specs.declared.origin.Origin.TheVariants.{Time};
 ghost use Rattle.propagation.specs.Asks.{HasAsks};
-ghost use Rattle.propagation.specs.Pairs.{AreMarked, ArePairsOf};
+ghost use Rattle.propagation.specs.Pairs.{AreAllMarked, AreListed, AreMarked, ArePairsOf};
 ghost use Rattle.propagation.specs.Visit.{Grows, IsFit};
 
 use crate::pending::Pending;
@@ -91,40 +91,21 @@ fn mark_fact(
     falsified: u32,
     pending: &mut Pending,
 )
+    requires listed { AreListed store.now falsified lists.now }
     requires fit { IsFit store.now (2 * assignment.now.variables) }
     requires falsified { has_literal assignment.now.trail (opposite falsified) ≡ true }
     requires origin { lists.now.origin ≡ Time time fact }
-    requires last { ArePairsOf store.now falsified lists.now.last }
-    requires next { ArePairsOf store.now falsified lists.now.next }
-    requires time { ArePairsOf store.now falsified lists.now.time }
     requires asks { HasAsks store.now assignment.now.trail pending.old }
-    ensures last { AreMarked assignment.now.trail lists.now.last pending.new }
-    ensures next { AreMarked assignment.now.trail lists.now.next pending.new }
-    ensures time { AreMarked assignment.now.trail lists.now.time pending.new }
     ensures grows { Grows (words_have pending.old.numbers) (words_have pending.new.numbers) }
     ensures asks { HasAsks store.now assignment.now.trail pending.new }
+    ensures in_set { AreAllMarked assignment.now.trail lists.now pending.new }
 {
-    mark_list(
-        store,
-        lists.last(time, fact),
-        assignment,
-        falsified,
-        pending,
-    );
-    mark_list(
-        store,
-        lists.next(time, fact),
-        assignment,
-        falsified,
-        pending,
-    );
-    mark_list(
-        store,
-        lists.time(time, fact),
-        assignment,
-        falsified,
-        pending,
-    );
+    let ending = lists.last(time, fact);
+    mark_list(store, ending, assignment, falsified, pending);
+    let beginning = lists.next(time, fact);
+    mark_list(store, beginning, assignment, falsified, pending);
+    let same = lists.time(time, fact);
+    mark_list(store, same, assignment, falsified, pending);
 }
 
 /// Puts the clauses of steps and times of two literals of a false literal into the set whose other literal is not true. Of which
@@ -132,22 +113,18 @@ fn mark_fact(
 #[inline(always)]
 fn mark_repeated(
     store: &Store,
+    falsified: u32,
     lists: &Lists,
     assignment: &Assignment,
-    falsified: u32,
     pending: &mut Pending,
 )
+    requires listed { AreListed store.now falsified lists.now }
     requires fit { IsFit store.now (2 * assignment.now.variables) }
     requires falsified { has_literal assignment.now.trail (opposite falsified) ≡ true }
-    requires last { ArePairsOf store.now falsified lists.now.last }
-    requires next { ArePairsOf store.now falsified lists.now.next }
-    requires time { ArePairsOf store.now falsified lists.now.time }
     requires asks { HasAsks store.now assignment.now.trail pending.old }
-    ensures last { AreMarked assignment.now.trail lists.now.last pending.new }
-    ensures next { AreMarked assignment.now.trail lists.now.next pending.new }
-    ensures time { AreMarked assignment.now.trail lists.now.time pending.new }
     ensures grows { Grows (words_have pending.old.numbers) (words_have pending.new.numbers) }
     ensures asks { HasAsks store.now assignment.now.trail pending.new }
+    ensures in_set { AreAllMarked assignment.now.trail lists.now pending.new }
 {
     match lists.origin() {
         Origin::Step(step, code) => mark_list(
@@ -169,8 +146,8 @@ fn mark_repeated(
 pub fn mark_pairs(
     store: &Store,
     index: &PairIndex,
-    assignment: &Assignment,
     falsified: u32,
+    assignment: &Assignment,
     pending: &mut Pending,
 )
     requires fit { IsFit store.now (2 * assignment.now.variables) }
@@ -184,7 +161,7 @@ pub fn mark_pairs(
 {
     let lists = index.lists(falsified);
     mark_list(store, lists.told(), assignment, falsified, pending);
-    mark_repeated(store, &lists, assignment, falsified, pending);
+    mark_repeated(store, falsified, &lists, assignment, pending);
     // With a second caller the loop stays a function of its own, and so the test before it goes into this one.
     match lists.after() {
         None => {}

@@ -1,12 +1,13 @@
 //! Which clauses may be pending, and what each of them asks for.
-ghost use Rattle.std.specs.Prelude.{◌≡◌, ℕ, ◌*◌, ◌<◌, ◌≤◌, length, false, slice_index, IfOk, OnOk};
+ghost use Rattle.std.specs.Prelude.{◌≡◌, ℕ, ◌*◌, ◌<◌, ◌≤◌, length, true, false, slice_index, IfOk, OnOk};
 ghost use Rattle.bit_sets.specs.Layered.{words_have};
-ghost use Rattle.propagation.specs.Asks.{IsPut, IsWider};
+ghost use Rattle.propagation.specs.Asks.{IsLeastAsking, IsPut, IsWider, IsWithin, IsWithout};
 
 use bit_sets::first::First;
 use bit_sets::flat::Flat;
 use bit_sets::layer::Layer;
 use bit_sets::set::NumberSet;
+use clause_base::literal::Lit;
 use containers::let_go;
 use std::alloc::{AllocError, Global};
 
@@ -98,6 +99,30 @@ impl Pending {
     {
         self.asks[number as usize] = ask;
         self.numbers.insert(number);
+    }
+
+    /// Whether the least clause of the set asks for a literal.
+    #[inline(always)]
+    fn is_asking(&self, lit: Lit) -> bool
+        requires { IsWithin (length self.now.asks.items) (words_have self.now.numbers) }
+        ensures { result ≡ true → IsLeastAsking lit self.now }
+    {
+        match self.numbers.least() {
+            None => false,
+            Some(number) => self.asks[number as usize] == lit.0,
+        }
+    }
+
+    /// Takes the least clause from the set, if it asks for a literal.
+    #[inline(always)]
+    pub fn take_asking(&mut self, lit: Lit)
+        requires { IsWithin (length self.old.asks.items) (words_have self.old.numbers) }
+        ensures { IsWithout lit self.old self.new }
+    {
+        if !self.is_asking(lit) {
+            return;
+        }
+        self.numbers.remove_least();
     }
 
     /// Makes room for a clause, where there is room for all before it.

@@ -1,6 +1,6 @@
 //! The clauses that are watched on a trail, and what the first of them asks for that is kept and pending, as literals become true and
 //! are taken back and clauses come and go.
-ghost use Rattle.std.specs.Prelude.{◌≡◌, ◌*◌, ◌/◌, ◌<◌, ◌++◌, ◌∷◌, [], None, take, length, replicate, true, false, slice_set, slice_index_or, IfOk, OnOk, OnErr, MatchOption};
+ghost use Rattle.std.specs.Prelude.{◌≡◌, ◌*◌, ◌/◌, ◌<◌, ◌≤◌, ◌++◌, ◌∷◌, [], None, take, length, replicate, true, false, slice_set, slice_index_or, IfOk, OnOk, OnErr, MatchOption};
 ghost use Rattle.clause_base.specs.Clause.{IsClause, has_literal, HasVariablesBelow};
 ghost use Rattle.cdcl_rules.specs.State.{value_of, clause_at};
 ghost use Rattle.cdcl_rules.specs.Pending.{is_pending_in, open_ones};
@@ -8,10 +8,12 @@ ghost use Rattle.cdcl_rules.specs.Learn.{backtracked};
 ghost use Rattle.cdcl_trail.specs.Assignment.{literals};
 ghost use Rattle.propagation.specs.Back.{taken_back};
 ghost use Rattle.propagation.specs.Front.{first_asked};
+ghost use Rattle.propagation.specs.Known.{AreListed};
 ghost use Rattle.propagation.specs.Pending.{PropagatorView};
 
 use crate::front::next;
 use crate::given::Given;
+use crate::known::{Known, list_from};
 use crate::marks::mark_pairs;
 use crate::pending::Pending;
 use crate::quiet::{no_quiet, raise};
@@ -159,6 +161,7 @@ impl Propagator {
     }
 
     /// Makes a literal true whose variable has no value. It takes no memory.
+    #[inline(always)]
     pub fn assign(&mut self, entry: Assigned)
         requires below { entry.literal < 2 * self.old.variables }
         requires opened { value_of self.old.entries (entry.literal / 2) ≡ None }
@@ -168,13 +171,16 @@ impl Propagator {
         let length = self.trail.length();
         let least = self.lists.pending.numbers.least();
         self.quiet[length as usize] = least.is_none();
+        // The clause that forces the literal is the least one, and is pending no more. Without it the set is mostly empty, so that the
+        // next one that enters is the least.
+        self.lists.pending.take_asking(entry.literal);
         self.trail.push(entry);
         let assignment = self.trail.assignment();
         mark_pairs(
             &self.tables.store,
             &self.pairs,
-            &assignment,
             falsified.0,
+            &assignment,
             &mut self.lists.pending,
         );
         self.lists.visit_all(&self.tables, &assignment, falsified.0);
@@ -200,8 +206,20 @@ impl Propagator {
         status_of(&assignment, &clause).left()
     }
 
-    /// Takes back what stands above a length or a level of the trail.
-    fn go_back(&mut self, to: Back)
+    /// Which clauses are kept and pending, by a short list and the number from which on any may be. It takes no memory.
+    pub fn known(&mut self) -> Known
+        ensures listed { AreListed (is_pending_in self.old.clauses self.old.kept (has_literal (literals self.old.entries))) result.numbers result.from }
+        ensures below { result.from ≤ length self.old.clauses }
+        ensures same { self.new ≡ self.old }
+    {
+        let assignment = self.trail.assignment();
+        list_from(&self.tables, &assignment, &mut self.lists.pending, 0)
+    }
+
+    /// Takes back what stands above a length or a level of the trail, where of the clauses whose numbers are below `from` no others
+    /// are kept and pending than the listed ones.
+    fn go_back(&mut self, to: Back, listed: &[u32], from: u32)
+        requires { AreListed (is_pending_in self.old.clauses self.old.kept (has_literal (literals (taken_back to self.old.entries)))) listed.now from }
         ensures { self.new ≡ record self.old { entries = taken_back to self.old.entries } }
     {
         let before = self.trail.length();
@@ -215,6 +233,8 @@ impl Propagator {
             &self.quiet,
             &assignment,
             &mut self.lists.pending,
+            listed,
+            from,
         );
     }
 
@@ -222,14 +242,16 @@ impl Propagator {
     pub fn backtrack(&mut self, level: u32)
         ensures { self.new ≡ record self.old { entries = backtracked level self.old.entries } }
     {
-        self.go_back(Back::Level(level));
+        self.go_back(Back::Level(level), &[], 0);
     }
 
-    /// Takes back what stands above a length of the trail. It takes no memory.
-    pub fn cut(&mut self, length: u32)
+    /// Takes back what stands above a length of the trail, where of the clauses whose numbers are below `from` no others are kept
+    /// and pending than the listed ones. It takes no memory.
+    pub fn cut(&mut self, length: u32, listed: &[u32], from: u32)
+        requires { AreListed (is_pending_in self.old.clauses self.old.kept (has_literal (literals (take length self.old.entries)))) listed.now from }
         ensures { self.new ≡ record self.old { entries = take length self.old.entries } }
     {
-        self.go_back(Back::Length(length));
+        self.go_back(Back::Length(length), listed, from);
     }
 
     /// Stops keeping a clause. It takes no memory.

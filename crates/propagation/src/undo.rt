@@ -3,6 +3,7 @@ ghost use Rattle.std.specs.Prelude.{◌≡◌, ℕ, ◌*◌, ◌<◌, ◌≤◌,
 ghost use Rattle.propagation.specs.Asks.{HasAsks};
 ghost use Rattle.propagation.specs.Back.{taken_back};
 ghost use Rattle.propagation.specs.Front.{IsComplete};
+ghost use Rattle.propagation.specs.Known.{AreListed};
 ghost use Rattle.propagation.specs.Tables.{AreTables, pending_in};
 
 use crate::front::rescan;
@@ -32,13 +33,21 @@ pub fn take_back(trail: &mut Trail, to: Back)
 }
 
 /// Finds which clauses are pending on a trail that was taken back. Where nothing is pending at its length, as the flags tell, no
-/// clause is looked at.
-pub fn refresh(tables: &Tables, quiet: &Vec<bool>, assignment: &Assignment, pending: &mut Pending)
+/// clause is looked at; else of the clauses whose numbers are below `from` only the listed ones are, for no others are pending.
+pub fn refresh(
+    tables: &Tables,
+    quiet: &Vec<bool>,
+    assignment: &Assignment,
+    pending: &mut Pending,
+    listed: &[u32],
+    from: u32,
+)
     requires tables { AreTables tables.now (2 * assignment.now.variables) }
     requires room { length tables.now.store ≤ 64 * length pending.old.numbers }
     requires long { length tables.now.store ≤ length pending.old.asks.items }
     requires flags { length assignment.now.trail < length quiet.now.items }
     requires quiet { slice_index_or quiet.now.items (length assignment.now.trail) false ≡ true → (k : ℕ) → pending_in tables.now assignment.now.trail k ≡ false }
+    requires listed { AreListed (pending_in tables.now assignment.now.trail) listed.now from }
     ensures asks { HasAsks tables.now.store assignment.now.trail pending.new }
     ensures complete { IsComplete (pending_in tables.now assignment.now.trail) pending.new }
 {
@@ -46,6 +55,6 @@ pub fn refresh(tables: &Tables, quiet: &Vec<bool>, assignment: &Assignment, pend
     if is_quiet {
         pending.clear();
     } else {
-        rescan(tables, assignment, pending);
+        rescan(tables, assignment, pending, listed, from);
     }
 }

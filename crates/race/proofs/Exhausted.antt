@@ -5,12 +5,11 @@ use Rattle.std.proofs.lemmas.List.Elements.{Contains-append_right, Contains-appe
 use Rattle.horizon_rates.specs.Horizons.{horizon_at, listed}
 use Rattle.horizon_rates.proofs.HorizonLaws.{up_to-Some, listed-first}
 use Rattle.cdcl_rules.specs.declared.standing.Standing.{Standing}
-use Rattle.cdcl_rules.specs.declared.standing.Standing.TheVariants.{Going, Found, Refuted}
 use Rattle.step_encoding.specs.Limits.{planner_literals}
 use Rattle.step_encoding.specs.Numbers.{literals_of}
-use Rattle.race_end.specs.Ends.{WordRefuted, LineView, EndView, Planned, Exhausted, Unfinished}
+use Rattle.race_end.specs.Ends.{WordRefuted, WordDropped, LineView, EndView, Planned, Exhausted, Unfinished}
 use Rattle.race.specs.Input.{RaceInput}
-use Rattle.race.specs.State.{LiveRun, RaceState, live_at, start, spent}
+use Rattle.race.specs.State.{LiveRun, RaceState, live_at, spent}
 use Rattle.race.specs.Starts.{fitting, started, fill, filled, too_large}
 use Rattle.race.specs.Grants.{grants, raised, advanced}
 use Rattle.race.specs.Found.{first_found, open_line, lines}
@@ -121,9 +120,7 @@ passed_last (r ∷ front) last none = step (passed_last front last) (any_refuted
     step more false none = absurd (let never : r ∷ (front ++ last ∷ []) ≡ [] = none in cc)
 
 word_refuted : (s : Standing) → is_refuted s ≡ true → passed_word s ≡ WordRefuted
-word_refuted Going e = absurd (let never : false ≡ true = e in cc)
-word_refuted Found e = absurd (let never : false ≡ true = e in cc)
-word_refuted Refuted e = refl
+word_refuted s e = ap (λ (b : Bool). if b then WordRefuted else WordDropped) e
 
 -- ---- stages
 

@@ -12,9 +12,7 @@ is_refuted Found = false
 is_refuted Refuted = true
 
 abbrev pub passed_word : Standing → Word
-passed_word Going = WordDropped
-passed_word Found = WordDropped
-passed_word Refuted = WordRefuted
+passed_word s = if is_refuted s then WordRefuted else WordDropped
 
 abbrev pub passed_line : LiveRun → LineView
 passed_line r = record { horizon = r.horizon; conflicts = r.state.conflicts; word = passed_word r.state.standing }

@@ -14,22 +14,6 @@ use solver_pool::Resume;
 use std::alloc::Global;
 use step_encoding::form::StepForm;
 
-/// The run of a horizon before its first conflict.
-pub(crate) fn fresh_run<F: StepForm>(
-    alloc: Global,
-    task: &Task,
-    form: &F,
-    horizon: u32,
-) -> Result<AheadRun, Memory>
-    requires form_of { F.task form.now ≡ task.now }
-    requires small { IsSmall F.StepForm form.now horizon }
-    ensures of { IfOk result (IsFreshOf F.StepForm form.now horizon) }
-    ensures fresh { IfOk result (IsFresh F.StepForm form.now) }
-{
-    let run = HorizonRun::new(alloc, task, form, horizon)?;
-    Ok(AheadRun::of(run))
-}
-
 /// The run of a horizon before its first conflict, over supporters that the runs of other horizons share.
 pub(crate) fn shared_run<F: StepForm>(
     alloc: Global,
@@ -72,6 +56,9 @@ pub(crate) fn next_fresh<F: StepForm>(
 {
     match take_first(made, horizon) {
         Some(run) => Ok(run),
-        None => fresh_run(alloc, task, form, horizon),
+        None => {
+            let new = HorizonRun::new(alloc, task, form, horizon)?;
+            Ok(AheadRun::of(new))
+        }
     }
 }

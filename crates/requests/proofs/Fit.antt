@@ -1,42 +1,32 @@
 -- Each command can be parsed, and gives its numbers.
-use Rattle.std.proofs.Common.{◌≡◌, ◌∙◌, ℕ, Bool, true, false, true≢false, List, [], ◌∷◌, map, Option, Some, None, is_some, slice_get, option_and_then, refl, sym, ap, subst, codes, if◌then◌else◌, String, Global, string_bytes}
-use Rattle.std.specs.Prelude.{unwrap_or}
+use Rattle.std.proofs.Common.{◌≡◌, ℕ, true, false, List, map, Some, slice_get, refl, codes}
 use Rattle.clap.specs.Walk.{Row, Rule, Text, arg_by_id}
-use Rattle.clap.specs.Simple.{App, matches_of}
-use Rattle.clap.specs.Takes.{takes}
+use Rattle.clap.specs.ValueTests.{accepts}
 use Rattle.clap.specs.declared.builder.value_parser.ValueParser.{ValueParser}
 use Rattle.requests.specs.declared.command.Name.{Name}
 use Rattle.requests.specs.declared.command.Name.TheVariants.{Plan, Check, Ground, Order, Gen, Prove, Verify, Batch}
 use Rattle.requests.specs.declared.command.Readers.{Readers}
-use Rattle.clap_words.specs.Same.{IsSame}
 use Rattle.clap_words.specs.Arguments.{number}
-use Rattle.requests.specs.Command.{AreReaders, command_of, lists, named, race_options, workers_option}
+use Rattle.requests.specs.Command.{AreReaders, command_of, race_options, workers_option}
 use Rattle.clap_words.specs.Fit.{IsFit}
 use Rattle.clap_words.specs.Passed.{Passed}
 use Rattle.requests.specs.Ranges.{Has, HasNumbers, HasSettings}
-use Rattle.requests.specs.Requested.{command_named, requested, requested_of}
-use Rattle.requests.specs.Seen.{Seen, counted, seen_in}
-use Rattle.requests.proofs.SameReaders.{as_lists}
 use Rattle.clap_words.proofs.ListReaders.{one_passes}
 use Rattle.clap_words.proofs.Ranges.{number_in, found_each}
 
+-- the word for the first list of horizons, which is the default, passes
+list_passes : (by : Readers) → AreReaders by → accepts false by.algorithms (codes "a") ≡ true
+list_passes by are = one_passes _ by.algorithms (codes "a") are.algorithms refl
+
 pub fit : (by : Readers) → AreReaders by → (name : Name) → IsFit (command_of by name)
-fit by are (Plan stepping) =
-    let a = one_passes _ by.algorithms (codes "a") are.algorithms refl in
-    record { simple = refl; leaf = refl; defaults = rw a refl; values = refl }
+fit by are (Plan stepping) = record { simple = refl; leaf = refl; defaults = rw (list_passes by are) refl; values = refl }
 fit by are Check = record { simple = refl; leaf = refl; defaults = refl; values = refl }
 fit by are Ground = record { simple = refl; leaf = refl; defaults = refl; values = refl }
 fit by are Order = record { simple = refl; leaf = refl; defaults = refl; values = refl }
-fit by are Gen =
-    let a = one_passes _ by.algorithms (codes "a") are.algorithms refl in
-    let n = one_passes _ by.shows (codes "none") are.shows refl in
-    record { simple = refl; leaf = refl; defaults = rw (a, n) refl; values = refl }
+fit by are Gen = record { simple = refl; leaf = refl; defaults = rw (list_passes by are, one_passes _ by.shows (codes "none") are.shows refl) refl; values = refl }
 fit by are Prove = record { simple = refl; leaf = refl; defaults = refl; values = refl }
 fit by are Verify = record { simple = refl; leaf = refl; defaults = refl; values = refl }
-fit by are Batch =
-    let a = one_passes _ by.algorithms (codes "a") are.algorithms refl in
-    let t = one_passes _ by.turns (codes "forward") are.turns refl in
-    record { simple = refl; leaf = refl; defaults = rw (a, t) refl; values = refl }
+fit by are Batch = record { simple = refl; leaf = refl; defaults = rw (list_passes by are, one_passes _ by.turns (codes "forward") are.turns refl) refl; values = refl }
 
 -- the numbers of a race, where its options are among the arguments
 race_of : (algorithms : ValueParser) (rules : List Rule) (rows : List Row) → Passed rules rows

@@ -27,7 +27,7 @@ module _ {R : Type 0} (g : Ghosts R) where
       subst (λ (k : ℕ). IsMoved g o k j) same (moved ∙ sym (stays (g.granted_of j) (target - g.granted_of j) settled))
 
   handed : (slice : ℕ) (v : PassView R) (j n : JobView R) (t : Turn g slice v) → IsDone g slice v j t → SameJob g j n → IsEnded g n → IsHanded g v.book n
-  handed slice v j n t done kept end = ((t.place, t.entry, t.at, (sym (kept.horizon ∙ done.horizon), sym (kept.target ∙ done.target), sym (kept.origin ∙ done.origin))), end)
+  handed slice v j n t done kept end = ((t.place, t.entry, t.at, (sym (kept.key ∙ done.key), sym (kept.target ∙ done.target), sym (kept.origin ∙ done.origin))), end)
 
   -- a run that does not go on has come to its target
   pub comes : ((r : R) → g.unsettled_at (g.state_of r) ≡ g.unsettled_at r)
@@ -75,10 +75,10 @@ module _ {R : Type 0} (g : Ghosts R) where
         same = ap (λ (v : PassView R). v.book) took ∙ was.same;
         balanced = λ e f.
             let before = was.balanced (sym more.0 ∙ e) f in
-            let one = sum_by_push (λ (n : Note). f n.horizon) v.took took_note in
-            let two = sum_by_push (λ (j : JobView R). f (g.horizon_of j.run)) k.done.items n in
-            let h : f t.entry.horizon ≡ f (g.horizon_of n.run) = ap f (sym (kept.horizon ∙ done.horizon)) in
-            subst (λ (y : PassView R × List (JobView R)). sum_by (λ n. f n.horizon) y.0.took + sum_by f begun ≡ sum_by (λ n. f n.horizon) y.0.put + sum_by (λ j. f (g.horizon_of j.run)) y.1)
+            let one = sum_by_push (λ (n : Note). f n.key) v.took took_note in
+            let two = sum_by_push (λ (j : JobView R). f (g.key_of j.run)) k.done.items n in
+            let h : f t.entry.key ≡ f (g.key_of n.run) = ap f (sym (kept.key ∙ done.key)) in
+            subst (λ (y : PassView R × List (JobView R)). sum_by (λ n. f n.key) y.0.took + sum_by f begun ≡ sum_by (λ n. f n.key) y.0.put + sum_by (λ j. f (g.key_of j.run)) y.1)
             (λ i. (sym took i, sym more.1 i)) (omega (arith, before, one, two, h));
         handed = subst (λ (l : List (JobView R)). All (IsHanded g book) l) (sym more.1) (All-append (IsHanded g book) k.done.items (n ∷ []) was.handed (all_one (IsHanded g book) n fit));
       }

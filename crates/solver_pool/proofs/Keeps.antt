@@ -11,10 +11,10 @@ use Rattle.crossbeam_queue.specs.Fifo.{Pushes, Pops, Forks, Merges, Learns, Held
 use Rattle.crossbeam_queue.proofs.Lists.{at_set, at_snoc, at_longer, at_last}
 use Rattle.solver_pool.specs.declared.resume.Resume.{Ghosts}
 use Rattle.solver_pool.specs.Resume.{IsMoved}
-use Rattle.solver_pool.specs.Job.{JobView, Differ, horizon_at, IsNew, note_of, entry_of, Fits}
+use Rattle.solver_pool.specs.Job.{JobView, Differ, key_at, IsNew, note_of, entry_of, Fits}
 use Rattle.solver_pool.specs.PassView.{owner_view, worker_view, ended_view, with_put, with_take, with_entry, with_pass_out, with_pass_in, count_of, live_count, MayPut}
 use Rattle.solver_pool.specs.Rule.{IsWorkerView, IsLawful, RuleHolds}
-use Rattle.solver_pool.specs.Steps.{TookAll, Settles, Takes, Opens}
+use Rattle.solver_pool.specs.Steps.{TookAll, TookPuts, Settles, Takes, Opens}
 use Rattle.solver_pool.specs.declared.pass_view.PassView.{PassView}
 use Rattle.solver_pool.specs.declared.pass_view.Note.{Note}
 use Rattle.solver_pool.specs.declared.pass_view.BookEntry.{BookEntry}
@@ -24,14 +24,14 @@ pub all_one : {X : Type 0} (P : X → Type 0) (x : X) → P x → All P (x ∷ [
 all_one P x p zero d h = p
 all_one P x p (suc k) d h = absurd (omega arith)
 
--- one more note of this horizon
-times_push : (h : ℕ) (ns : List Note) (n : Note) → n.horizon ≡ h → count_of h (ns ++ n ∷ []) ≡ count_of h ns + 1
+-- one more note of this key
+times_push : (h : ℕ) (ns : List Note) (n : Note) → n.key ≡ h → count_of h (ns ++ n ∷ []) ≡ count_of h ns + 1
 times_push h ns n e =
-    let one : one_if (n.horizon == h) ≡ 1 = ap one_if (eq-eqb n.horizon h e) in
-    omega (arith, one, sum_by_push (λ (m : Note). one_if (m.horizon == h)) ns n)
+    let one : one_if (n.key == h) ≡ 1 = ap one_if (eq-eqb n.key h e) in
+    omega (arith, one, sum_by_push (λ (m : Note). one_if (m.key == h)) ns n)
 
 times_grow : (h : ℕ) (ns : List Note) (n : Note) → count_of h ns ≤ count_of h (ns ++ n ∷ [])
-times_grow h ns n = omega (arith, sum_by_push (λ (m : Note). one_if (m.horizon == h)) ns n)
+times_grow h ns n = omega (arith, sum_by_push (λ (m : Note). one_if (m.key == h)) ns n)
 
 one_if_le : (b : Bool) → one_if b ≤ 1
 one_if_le true = omega arith
@@ -48,27 +48,27 @@ at_end [] a b (suc j) e = absurd (some-ne-none b (sym e))
 at_end (x ∷ xs) a b zero e = inl e
 at_end (x ∷ xs) a b (suc j) e = ⊎_elim (λ t. inl t) (λ t. let m = t.1 in inr (t.0, omega (arith, m))) (at_end xs a b j e)
 
--- a book with an entry of a new horizon
-differ_more : {R : Type 0} (book : List (BookEntry R)) (x : BookEntry R) → Differ horizon_at book → IsNew book x.horizon → Differ horizon_at (book ++ x ∷ [])
+-- a book with an entry of a new key
+differ_more : {R : Type 0} (book : List (BookEntry R)) (x : BookEntry R) → Differ key_at book → IsNew book x.key → Differ key_at (book ++ x ∷ [])
 differ_more book x differ new i j a b p q e =
     ⊎_elim (λ (s : get_elem? book i ≡ some a).
-    ⊎_elim (λ (t : get_elem? book j ≡ some b). differ i j a b s t e) (λ (t : (x ≡ b) × (j ≡ length book)). absurd (new i a s (e ∙ ap horizon_at (sym t.0)))) (at_end book x b j q))
+    ⊎_elim (λ (t : get_elem? book j ≡ some b). differ i j a b s t e) (λ (t : (x ≡ b) × (j ≡ length book)). absurd (new i a s (e ∙ ap key_at (sym t.0)))) (at_end book x b j q))
     (λ (s : (x ≡ a) × (i ≡ length book)).
-    ⊎_elim (λ (t : get_elem? book j ≡ some b). absurd (new j b t (sym e ∙ ap horizon_at (sym s.0)))) (λ (t : (x ≡ b) × (j ≡ length book)). s.1 ∙ sym t.1) (at_end book x b j q))
+    ⊎_elim (λ (t : get_elem? book j ≡ some b). absurd (new j b t (sym e ∙ ap key_at (sym s.0)))) (λ (t : (x ≡ b) × (j ≡ length book)). s.1 ∙ sym t.1) (at_end book x b j q))
     (at_end book x a i p)
 
--- a put of a horizon that was taken more often than put
-times_put : (h k : ℕ) (put took : List Note) (n : Note) → n.horizon ≡ k → count_of k put < count_of k took → count_of h put ≤ count_of h took → count_of h (put ++ n ∷ []) ≤ count_of h took
+-- a put of a key that was taken more often than put
+times_put : (h k : ℕ) (put took : List Note) (n : Note) → n.key ≡ k → count_of k put < count_of k took → count_of h put ≤ count_of h took → count_of h (put ++ n ∷ []) ≤ count_of h took
 times_put h k put took n e more le =
-    let P : Bool → Type 0 = λ b. (n.horizon == h) ≡ b → count_of h (put ++ n ∷ []) ≤ count_of h took in
+    let P : Bool → Type 0 = λ b. (n.key == h) ≡ b → count_of h (put ++ n ∷ []) ≤ count_of h took in
     let yes : P true = λ t.
-    let same : k ≡ h = sym e ∙ eqb-true n.horizon h t in
+    let same : k ≡ h = sym e ∙ eqb-true n.key h t in
     let more' : count_of h put < count_of h took = subst (λ j. count_of j put < count_of j took) same more in
     omega (arith, times_push h put n (e ∙ same), more') in
     let no : P false = λ f.
-    let zero' : one_if (n.horizon == h) ≡ 0 = ap one_if f in
-    omega (arith, zero', le, sum_by_push (λ (m : Note). one_if (m.horizon == h)) put n) in
-    (elim (n.horizon == h) as P [ true ↦ yes | false ↦ no ]) refl
+    let zero' : one_if (n.key == h) ≡ 0 = ap one_if f in
+    omega (arith, zero', le, sum_by_push (λ (m : Note). one_if (m.key == h)) put n) in
+    (elim (n.key == h) as P [ true ↦ yes | false ↦ no ]) refl
 
 module _ {R : Type 0} (g : Ghosts R) where
   pub begins : RuleHolds g [] (owner_view ∷ [])
@@ -106,16 +106,16 @@ module _ {R : Type 0} (g : Ghosts R) where
       }
 
   worker_puts : (x : JobView R) (items : List (JobView R)) (o : PassView R) (ws : List (PassView R)) (j : ℕ) (v : PassView R) → IsLawful g items o ws → get_elem? ws j ≡ some v → v.ended ≡ false
-      → count_of (g.horizon_of x.run) v.put < count_of (g.horizon_of x.run) v.took → length v.put < length v.took → Fits g v.book x
+      → count_of (g.key_of x.run) v.put < count_of (g.key_of x.run) v.took → length v.put < length v.took → Fits g v.book x
       → IsLawful g (items ++ x ∷ []) o (set ws j (with_put v (note_of g x)))
   worker_puts x items o ws j v r at live held fewer fit =
       let n = note_of g x in
       let was = r.workers j v at in
-      worker_moves items (items ++ x ∷ []) o ws j v (v.put ++ n ∷ []) v.took r at live (λ h. times_put h n.horizon v.put v.took n refl held (was.back h)) (omega (arith, length-append v.put (n ∷ [])))
+      worker_moves items (items ++ x ∷ []) o ws j v (v.put ++ n ∷ []) v.took r at live (λ h. times_put h n.key v.put v.took n refl held (was.back h)) (omega (arith, length-append v.put (n ∷ [])))
       (λ f. omega (arith, sum_by_push f v.put n, sum_by_push (λ j. f (note_of g j)) items x))
       (All-append (Fits g o.book) items (x ∷ []) r.fits (all_one (Fits g o.book) x (subst (λ (b : List (BookEntry R)). Fits g b x) (was.same live) fit)))
 
-  pub puts : (n port : ℕ) (v : PassView R) (x : JobView R) → v.ended ≡ false → MayPut v (g.horizon_of x.run) → Fits g v.book x → Pushes (RuleHolds g) n port v x (λ w. w ≡ with_put v (note_of g x))
+  pub puts : (n port : ℕ) (v : PassView R) (x : JobView R) → v.ended ≡ false → MayPut v (g.key_of x.run) → Fits g v.book x → Pushes (RuleHolds g) n port v x (λ w. w ≡ with_put v (note_of g x))
   puts n port v x live may fit items [] space b at = absurd b
   puts n zero v x live may fit items (o ∷ ws) space b at =
       let is : o ≡ v = some-injective o v at in
@@ -145,6 +145,29 @@ module _ {R : Type 0} (g : Ghosts R) where
       (λ f. omega (arith, sum_by_push f v.took n, sum_by-cons (λ j. f (note_of g j)) x items))
       (All-tail (Fits g o.book) x items r.fits)
 
+  -- the owner's pass is the first
+  first : (items : List (JobView R)) (o : PassView R) (ws : List (PassView R)) (port : ℕ) (v : PassView R) → IsLawful g items o ws → v.owner ≡ true → get_elem? (o ∷ ws) port ≡ some v → (port ≡ 0) × (o ≡ v)
+  first items o ws zero v r owns at = (refl, some-injective o v at)
+  first items o ws (suc j) v r owns at = absurd (true≢false (sym owns ∙ (r.workers j v at).worker))
+
+  -- where all others ended, the owner's puts are its takes and what the ring holds
+  pub settles : (port : ℕ) (v : PassView R) → Learns (RuleHolds g) port v (Settles g v)
+  settles port v items [] b at = absurd b
+  settles port v items (o ∷ ws) b at = λ owns none f.
+      let mine = first items o ws port v b owns at in
+      let is : o ≡ v = mine.1 in
+      let zero' : live_count ws ≡ 0 = b.count ∙ (ap (λ (y : PassView R). y.out) is ∙ none) in
+      let over : (j : ℕ) (u : PassView R) → get_elem? ws j ≡ some u → u.ended ≡ true = λ j u e. is_over u.ended (no_term (λ (y : PassView R). one_if (not y.ended)) ws j u zero' e) in
+      let no_put = no_sum (λ (y : PassView R). sum_by f y.put) ws (λ j u e. ap (λ (l : List Note). sum_by f l) ((b.workers j u e).none (over j u e)).0) in
+      let no_took = no_sum (λ (y : PassView R). sum_by f y.took) ws (λ j u e. ap (λ (l : List Note). sum_by f l) ((b.workers j u e).none (over j u e)).1) in
+      let said : sum_by f o.put ≡ sum_by f o.took + sum_by (λ j. f (note_of g j)) items = omega (arith, b.all_notes f, no_put, no_took) in
+      subst (λ (y : PassView R). sum_by f y.put ≡ sum_by f y.took + sum_by (λ j. f (note_of g j)) items) is said
+
+  -- what a pass took, where no other is out, the owner put
+  took_puts : (x : JobView R) (items : List (JobView R)) (passes : List (PassView R)) (port : ℕ) (v : PassView R) → RuleHolds g (x ∷ items) passes → get_elem? passes port ≡ some v → TookPuts (with_take v (note_of g x))
+  took_puts x items passes port v b at owns none f =
+      omega (arith, settles port v (x ∷ items) passes b at owns none f, sum_by_push f v.took (note_of g x), sum_by-cons (λ j. f (note_of g j)) x items)
+
   pub takes : (port : ℕ) (v : PassView R) → v.ended ≡ false → Pops (RuleHolds g) port v (Takes g v)
   takes port v live x items [] b at = absurd b
   takes zero v live x items (o ∷ ws) b at =
@@ -153,7 +176,7 @@ module _ {R : Type 0} (g : Ghosts R) where
       let owns : v.owner ≡ true = ap (λ (y : PassView R). y.owner) (sym is) ∙ b.owner in (
         with_take v (note_of g x),
         subst (λ (y : PassView R). IsLawful g items (with_take y (note_of g x)) ws) is (owner_takes x items o ws b),
-        (refl, subst (λ (y : PassView R). Fits g y.book x) is (b.fits 0 x (omega arith)), ((λ _. omega (arith, few, length-append v.took (note_of g x ∷ []))), λ e. absurd (true≢false (sym owns ∙ e))), subst (λ (y : PassView R). Differ horizon_at y.book) is b.differ),
+        (refl, subst (λ (y : PassView R). Fits g y.book x) is (b.fits 0 x (omega arith)), ((λ _. omega (arith, few, length-append v.took (note_of g x ∷ []))), λ e. absurd (true≢false (sym owns ∙ e))), subst (λ (y : PassView R). Differ key_at y.book) is b.differ, took_puts x items (o ∷ ws) 0 v b at),
       )
   takes (suc j) v live x items (o ∷ ws) b at =
       let was = b.workers j v at in (
@@ -164,16 +187,12 @@ module _ {R : Type 0} (g : Ghosts R) where
           subst (λ (k : List (BookEntry R)). Fits g k x) (sym (was.same live)) (b.fits 0 x (omega arith)),
           (
             (λ e. absurd (true≢false (sym e ∙ was.worker))),
-            λ _. (omega (arith, was.back (g.horizon_of x.run), times_push (g.horizon_of x.run) v.took (note_of g x) refl), omega (arith, was.fewer, length-append v.took (note_of g x ∷ []))),
+            λ _. (omega (arith, was.back (g.key_of x.run), times_push (g.key_of x.run) v.took (note_of g x) refl), omega (arith, was.fewer, length-append v.took (note_of g x ∷ []))),
           ),
-          subst (λ (k : List (BookEntry R)). Differ horizon_at k) (sym (was.same live)) b.differ,
+          subst (λ (k : List (BookEntry R)). Differ key_at k) (sym (was.same live)) b.differ,
+          took_puts x items (o ∷ ws) (suc j) v b at,
         ),
       )
-
-  -- the owner's pass is the first
-  first : (items : List (JobView R)) (o : PassView R) (ws : List (PassView R)) (port : ℕ) (v : PassView R) → IsLawful g items o ws → v.owner ≡ true → get_elem? (o ∷ ws) port ≡ some v → (port ≡ 0) × (o ≡ v)
-  first items o ws zero v r owns at = (refl, some-injective o v at)
-  first items o ws (suc j) v r owns at = absurd (true≢false (sym owns ∙ (r.workers j v at).worker))
 
   pub forks : (port : ℕ) (v : PassView R) → v.owner ≡ true → Forks (RuleHolds g) port v (with_pass_out v) (worker_view v.book)
   forks port v owns items [] b at = absurd b
@@ -214,19 +233,6 @@ module _ {R : Type 0} (g : Ghosts R) where
       subst (λ (y : PassView R). IsLawful g items (with_pass_in y u) (set ws j ended_view)) is kept
   merges (suc i) v other u owns live items (o ∷ ws) b at two at' = absurd (true≢false (sym owns ∙ (b.workers i v at).worker))
 
-  -- what no pass put, where all others ended_view, the owner's pass did not
-  pub settles : (port : ℕ) (v : PassView R) → Learns (RuleHolds g) port v (Settles g v)
-  settles port v items [] b at = absurd b
-  settles port v items (o ∷ ws) b at = λ owns none f.
-      let mine = first items o ws port v b owns at in
-      let is : o ≡ v = mine.1 in
-      let zero' : live_count ws ≡ 0 = b.count ∙ (ap (λ (y : PassView R). y.out) is ∙ none) in
-      let over : (j : ℕ) (u : PassView R) → get_elem? ws j ≡ some u → u.ended ≡ true = λ j u e. is_over u.ended (no_term (λ (y : PassView R). one_if (not y.ended)) ws j u zero' e) in
-      let no_put = no_sum (λ (y : PassView R). sum_by f y.put) ws (λ j u e. ap (λ (l : List Note). sum_by f l) ((b.workers j u e).none (over j u e)).0) in
-      let no_took = no_sum (λ (y : PassView R). sum_by f y.took) ws (λ j u e. ap (λ (l : List Note). sum_by f l) ((b.workers j u e).none (over j u e)).1) in
-      let said : sum_by f o.put ≡ sum_by f o.took + sum_by (λ j. f (note_of g j)) items = omega (arith, b.all_notes f, no_put, no_took) in
-      subst (λ (y : PassView R). sum_by f y.put ≡ sum_by f y.took + sum_by (λ j. f (note_of g j)) items) is said
-
   -- the numbers of notes and of jobs
   lengths : (items : List (JobView R)) (o : PassView R) (ws : List (PassView R)) → IsLawful g items o ws
       → length o.put + sum_by (λ (v : PassView R). length v.put) ws ≡ length o.took + sum_by (λ (v : PassView R). length v.took) ws + length items
@@ -246,7 +252,7 @@ module _ {R : Type 0} (g : Ghosts R) where
 
   -- a put of the opening, while no pass is out
   pub opens : (n port : ℕ) (v : PassView R) (x : JobView R) → v.owner ≡ true → v.out ≡ 0 → length v.put < length v.took + 16
-      → IsNew v.book (g.horizon_of x.run) → IsMoved g (g.origin_of x.run) (g.granted_of x.run) x.run → g.granted_of x.run ≤ x.target → g.spoilt_at x.run ≡ false → Pushes (RuleHolds g) n port v x (Opens g v x)
+      → IsNew v.book (g.key_of x.run) → IsMoved g (g.origin_of x.run) (g.granted_of x.run) x.run → g.granted_of x.run ≤ x.target → g.spoilt_at x.run ≡ false → Pushes (RuleHolds g) n port v x (Opens g v x)
   opens n port v x owns alone few new moved within sound items [] space b at = absurd b
   opens n port v x owns alone few new moved within sound items (o ∷ ws) space b at =
       let mine = first items o ws port v b owns at in
@@ -261,7 +267,7 @@ module _ {R : Type 0} (g : Ghosts R) where
         workers = λ j u e. let was = b.workers j u e in record { worker = was.worker; same = λ f. absurd (true≢false (sym (over j u e) ∙ f)); none = was.none; back = was.back; fewer = was.fewer };
         count = b.count;
         few = b.few;
-        differ = differ_more o.book (entry_of g x) b.differ (subst (λ (y : PassView R). IsNew y.book (g.horizon_of x.run)) (sym is) new);
+        differ = differ_more o.book (entry_of g x) b.differ (subst (λ (y : PassView R). IsNew y.book (g.key_of x.run)) (sym is) new);
         fits = λ k d lt. let fit = b.fits k d lt in let l = fit.listed in record { listed = (l.0, l.1, at_longer o.book (entry_of g x ∷ []) l.0 l.1 l.2, l.3); moved = fit.moved; within = fit.within; sound = fit.sound };
       } in
       let fit : Fits g book x = record { listed = (length o.book, entry_of g x, at_last o.book (entry_of g x) (length o.book) refl, (refl, refl, refl)); moved = moved; within = within; sound = sound } in

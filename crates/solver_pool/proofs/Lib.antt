@@ -2,6 +2,7 @@ pub mod Sums
 pub mod Places
 pub mod Keeps
 pub mod OneTurn
+pub mod Falling
 pub mod Handed
 pub mod Passes
 pub mod Opening

@@ -15,12 +15,12 @@ use Rattle.solver_pool.specs.declared.pass_view.BookEntry.{BookEntry}
 module _ {R : Type 0} (g : Ghosts R) where
   -- the job that a turn is done with is the one that it took
   pub record SameJob (x j : JobView R) : Type 0 where
-    pub horizon : g.horizon_of j.run ≡ g.horizon_of x.run
+    pub key : g.key_of j.run ≡ g.key_of x.run
     pub target : j.target ≡ x.target
     pub origin : g.origin_of j.run ≡ g.origin_of x.run
 
   -- a run that found memory went as far as the turn grants
-  went : (slice : ℕ) (x j : JobView R) → IsAdvanced g slice x j → g.spoilt_at j.run ≡ false
+  pub went : (slice : ℕ) (x j : JobView R) → IsAdvanced g slice x j → g.spoilt_at j.run ≡ false
       → (g.granted_of j.run ≡ g.granted_of x.run + part_of slice x.target (g.granted_of x.run)) × IsMoved g (g.origin_of x.run) (g.granted_of j.run) j.run
   went slice x j (inl a) sound = (a.1, a.2)
   went slice x j (inr b) sound = absurd (true≢false (sym b.0 ∙ sound))
@@ -31,7 +31,7 @@ module _ {R : Type 0} (g : Ghosts R) where
       let l = took.1.listed in
       let book : v.book ≡ w.book = sym (ap (λ (y : PassView R). y.book) took.0) in
       record {
-        listed = (l.0, l.1, subst (λ (b : List (BookEntry R)). get_elem? b l.0 ≡ some l.1) book l.2, (l.3.0 ∙ sym kept.horizon, l.3.1 ∙ sym kept.target, l.3.2 ∙ sym kept.origin));
+        listed = (l.0, l.1, subst (λ (b : List (BookEntry R)). get_elem? b l.0 ≡ some l.1) book l.2, (l.3.0 ∙ sym kept.key, l.3.1 ∙ sym kept.target, l.3.2 ∙ sym kept.origin));
         moved = subst (λ (o : R). IsMoved g o (g.granted_of j.run) j.run) (sym kept.origin) (went slice x j advanced sound).1;
         within = omega (arith, below);
         sound = sound;
@@ -65,7 +65,7 @@ module _ {R : Type 0} (g : Ghosts R) where
       let far = went slice x j advanced on.1 in
       let n = next slice v w x j took far.0 in
       let below : g.granted_of j.run < t.entry.target = subst (λ (y : ℕ). g.granted_of j.run < y) (kept.target ∙ sym took.1.listed.3.1) on.2 in
-      let h : g.horizon_of j.run ≡ t.entry.horizon = kept.horizon ∙ sym took.1.listed.3.0 in (
+      let h : g.key_of j.run ≡ t.entry.key = kept.key ∙ sym took.1.listed.3.0 in (
         t,
         (subst (λ (y : ℕ). y < t.entry.target) n below, told by_state t.entry.origin (granted_after g slice v t) j.run (moved_next slice v w x j took n far.1) ∙ on.0),
         put ∙ ap (λ (y : PassView R). with_put y (note_of g j)) (noted slice v w x took) ∙ (λ i. with_put (with_take v (taken_note g slice v t)) (note (h i) (n i))),
@@ -91,6 +91,6 @@ module _ {R : Type 0} (g : Ghosts R) where
       let l = took.1.listed in (
         turn_of slice v w x took,
         noted slice v w x took,
-        record { horizon = kept.horizon ∙ sym l.3.0; target = kept.target ∙ sym l.3.1; origin = kept.origin ∙ sym l.3.2; run = served by_state slice v w x j took kept advanced stop },
+        record { key = kept.key ∙ sym l.3.0; target = kept.target ∙ sym l.3.1; origin = kept.origin ∙ sym l.3.2; run = served by_state slice v w x j took kept advanced stop },
         end,
       )

@@ -50,7 +50,7 @@ module _ {R : Type 0} (g : Ghosts R) where
         let now : IsBalanced g begun (with_pass_in a b) (k.done.items ++ w.done.items) = λ f.
         let one = was.balanced said.0 f in
         let two = its.balanced said.1 f in
-        omega (arith, one, two, sum_by-append (λ (n : Note). f n.horizon) a.put b.put, sum_by-append (λ (n : Note). f n.horizon) a.took b.took, sum_by-append (λ (j : JobView R). f (g.horizon_of j.run)) k.done.items w.done.items) in
+        omega (arith, one, two, sum_by-append (λ (n : Note). f n.key) a.put b.put, sum_by-append (λ (n : Note). f n.key) a.took b.took, sum_by-append (λ (j : JobView R). f (g.key_of j.run)) k.done.items w.done.items) in
         subst (λ (y : PassView R × List (JobView R)). IsBalanced g begun y.0 y.1) (λ i. (sym e i, sym said.2 i)) now;
     handed = hand;
   }

@@ -8,7 +8,7 @@ use Rattle.std.proofs.lemmas.List.Sorted.{IsPermutation-refl, IsPermutation-cons
 use mathlib.Core.Option.{some, some-injective, some-ne-none}
 use lib.ListN.{get_elem?}
 use Rattle.solver_pool.specs.declared.resume.Resume.{Ghosts}
-use Rattle.solver_pool.specs.Job.{JobView, Differ, IsAtTarget, AreRising, horizon_at, horizon_in, entry_of, IsListed}
+use Rattle.solver_pool.specs.Job.{JobView, Differ, IsAtTarget, AreRising, key_at, key_in, entry_of, IsListed}
 use Rattle.solver_pool.specs.Rounds.{IsRound, AreServed}
 use Rattle.containers.specs.declared.memory.Memory.{Memory}
 use Rattle.solver_pool.specs.declared.pass_view.BookEntry.{BookEntry}
@@ -129,11 +129,11 @@ module _ {A : Type 0} (key : A → ℕ) where
   twice h (x ∷ l) (suc i) a b p q e f = let rest = twice h l i a b p q e f in omega (arith, rest, sum_by-cons (λ a. is_at h (key a)) x l)
 
 module _ {R : Type 0} (g : Ghosts R) where
-  differ_entries : (jobs : List (JobView R)) → Differ (horizon_in g) jobs → Differ horizon_at (map (entry_of g) jobs)
+  differ_entries : (jobs : List (JobView R)) → Differ (key_in g) jobs → Differ key_at (map (entry_of g) jobs)
   differ_entries jobs differ i j a b p q e =
       let s = at_mapped (entry_of g) jobs i a p in
       let t = at_mapped (entry_of g) jobs j b q in
-      differ i j s.0 t.0 s.1 t.1 (ap horizon_at s.2 ∙ e ∙ ap horizon_at (sym t.2))
+      differ i j s.0 t.0 s.1 t.1 (ap key_at s.2 ∙ e ∙ ap key_at (sym t.2))
 
   there_entries : (jobs done : List (JobView R)) → AreServed g jobs done → (k : ℕ) (y : BookEntry R) → get_elem? (map (entry_of g) done) k ≡ some y → (i : ℕ) × (get_elem? (map (entry_of g) jobs) i ≡ some y)
   there_entries jobs done served k y at =
@@ -142,14 +142,14 @@ module _ {R : Type 0} (g : Ghosts R) where
       let lt = in_range done k j s.1 in
       let is : slice_index_or done k j ≡ j = some-injective (slice_index_or done k j) j (sym (at_index done k j lt) ∙ s.1) in
       let l : IsListed g (map (entry_of g) jobs) j = subst (λ (x : JobView R). IsListed g (map (entry_of g) jobs) x) is (served.each k j lt).0 in
-      let e : l.1 ≡ y = (λ i. record { horizon = l.3.0 i; target = l.3.1 i; origin = l.3.2 i }) ∙ s.2 in
+      let e : l.1 ≡ y = (λ i. record { key = l.3.0 i; target = l.3.1 i; origin = l.3.2 i }) ∙ s.2 in
       (l.0, subst (λ (x : BookEntry R). get_elem? (map (entry_of g) jobs) l.0 ≡ some x) e l.2)
 
-  entries : (jobs done : List (JobView R)) → Differ (horizon_in g) jobs → AreServed g jobs done → IsPermutation (map (entry_of g) jobs) (map (entry_of g) done)
-  entries jobs done differ served = same_items horizon_at (map (entry_of g) jobs) (map (entry_of g) done) (differ_entries jobs differ) (there_entries jobs done served) (λ f. sum_by-map (λ (e : BookEntry R). f e.horizon) (entry_of g) done ∙ served.once f ∙ sym (sum_by-map (λ (e : BookEntry R). f e.horizon) (entry_of g) jobs))
+  entries : (jobs done : List (JobView R)) → Differ (key_in g) jobs → AreServed g jobs done → IsPermutation (map (entry_of g) jobs) (map (entry_of g) done)
+  entries jobs done differ served = same_items key_at (map (entry_of g) jobs) (map (entry_of g) done) (differ_entries jobs differ) (there_entries jobs done served) (λ f. sum_by-map (λ (e : BookEntry R). f e.key) (entry_of g) done ∙ served.once f ∙ sym (sum_by-map (λ (e : BookEntry R). f e.key) (entry_of g) jobs))
 
-  rises : (jobs done out : List (JobView R)) → Differ (horizon_in g) jobs → AreServed g jobs done → IsPermutation done out → IsNonDecreasingBy (horizon_in g) out
-      → AllAdjacentBelow (λ a b. g.horizon_of a.run < g.horizon_of b.run) out (length out)
+  rises : (jobs done out : List (JobView R)) → Differ (key_in g) jobs → AreServed g jobs done → IsPermutation done out → IsNonDecreasingBy (key_in g) out
+      → AllAdjacentBelow (λ a b. g.key_of a.run < g.key_of b.run) out (length out)
   rises jobs done out differ served same up k d lt =
       let a = slice_index_or out k d in
       let b = slice_index_or out (k + 1) d in
@@ -157,12 +157,12 @@ module _ {R : Type 0} (g : Ghosts R) where
       let next : k + 1 ≡ suc k = omega arith in
       let p = at_index out k d (omega (arith, lt)) in
       let q : get_elem? out (suc k) ≡ some b = subst (λ (i : ℕ). get_elem? out i ≡ some b) next (at_index out (k + 1) d lt) in
-      let other : ¬ (g.horizon_of a.run ≡ g.horizon_of b.run) = λ e.
-      let h = g.horizon_of b.run in
-      let two = twice (horizon_in g) h out k a b p q e refl in
-      let one = once (horizon_in g) h jobs differ in
+      let other : ¬ (g.key_of a.run ≡ g.key_of b.run) = λ e.
+      let h = g.key_of b.run in
+      let two = twice (key_in g) h out k a b p q e refl in
+      let one = once (key_in g) h jobs differ in
       let s = served.once (is_at h) in
-      let t = sum_by-IsPermutation (λ (j : JobView R). is_at h (g.horizon_of j.run)) done out same in
+      let t = sum_by-IsPermutation (λ (j : JobView R). is_at h (g.key_of j.run)) done out same in
       omega (arith, two, one, s, t) in
       omega (arith, le, other)
 
@@ -172,8 +172,8 @@ module _ {R : Type 0} (g : Ghosts R) where
       let ok = sound k d lt in
       ⊎_elim (λ (e : g.spoilt_at j.run ≡ true). absurd (true≢false (sym e ∙ ok))) (λ (e : IsAtTarget g j). e) (served.each k d lt).1
 
-  pub given_back : (jobs done : List (JobView R)) (result : Result (List (JobView R)) Memory) → Differ (horizon_in g) jobs → AreServed g jobs done
-      → IfOk result (λ out. IsPermutation done out) → IfOk result (λ out. IsNonDecreasingBy (horizon_in g) out) → IfOk result (λ out. All (λ (j : JobView R). g.spoilt_at j.run ≡ false) done) → IfOk result (λ out. IsRound g jobs out)
+  pub given_back : (jobs done : List (JobView R)) (result : Result (List (JobView R)) Memory) → Differ (key_in g) jobs → AreServed g jobs done
+      → IfOk result (λ out. IsPermutation done out) → IfOk result (λ out. IsNonDecreasingBy (key_in g) out) → IfOk result (λ out. All (λ (j : JobView R). g.spoilt_at j.run ≡ false) done) → IfOk result (λ out. IsRound g jobs out)
   given_back jobs done (Ok out) differ served same rising sound = record {
     once = IsPermutation-trans (map (entry_of g) jobs) (map (entry_of g) done) (map (entry_of g) out) (entries jobs done differ served) (IsPermutation-map (entry_of g) done out same);
     rising = rises jobs done out differ served same rising;
@@ -183,5 +183,5 @@ module _ {R : Type 0} (g : Ghosts R) where
 
   -- jobs that came in rising order come back in the same order
   pub in_order : (jobs : List (JobView R)) (result : Result (List (JobView R)) Memory) → IfOk result (λ out. IsRound g jobs out) → IfOk result (λ out. AreRising g jobs → map (entry_of g) out ≡ map (entry_of g) jobs)
-  in_order jobs (Ok out) round = λ up. same_rising horizon_at (map (entry_of g) jobs) (map (entry_of g) out) round.once (rises_map (entry_of g) horizon_at jobs up) (rises_map (entry_of g) horizon_at out round.rising)
+  in_order jobs (Ok out) round = λ up. same_rising key_at (map (entry_of g) jobs) (map (entry_of g) out) round.once (rises_map (entry_of g) key_at jobs up) (rises_map (entry_of g) key_at out round.rising)
   in_order jobs (Err e) round = round

@@ -17,16 +17,16 @@ pub record JobView (R : Type 0) : Type 0 where
 abbrev pub Differ : {A : Type 0} → (A → ℕ) → List A → Type 0
 Differ {A} key l = (i j : ℕ) (a b : A) → get_elem? l i ≡ some a → get_elem? l j ≡ some b → key a ≡ key b → i ≡ j
 
-abbrev pub horizon_at : {R : Type 0} → BookEntry R → ℕ
-horizon_at e = e.horizon
+abbrev pub key_at : {R : Type 0} → BookEntry R → ℕ
+key_at e = e.key
 
--- no entry of the book has this horizon
+-- no entry of the book has this key
 abbrev pub IsNew : {R : Type 0} → List (BookEntry R) → ℕ → Type 0
-IsNew {R} book h = (k : ℕ) (e : BookEntry R) → get_elem? book k ≡ some e → ¬ (e.horizon ≡ h)
+IsNew {R} book h = (k : ℕ) (e : BookEntry R) → get_elem? book k ≡ some e → ¬ (e.key ≡ h)
 
 module _ {R : Type 0} (g : Ghosts R) where
-  abbrev pub horizon_in : JobView R → ℕ
-  horizon_in j = g.horizon_of j.run
+  abbrev pub key_in : JobView R → ℕ
+  key_in j = g.key_of j.run
 
   -- no run is spoilt
   abbrev pub AreSound : List (JobView R) → Type 0
@@ -36,22 +36,22 @@ module _ {R : Type 0} (g : Ghosts R) where
   abbrev pub IsAtTarget : JobView R → Type 0
   IsAtTarget j = (g.spoilt_at j.run ≡ false) × IsMoved g (g.origin_of j.run) j.target j.run × (g.unsettled_at j.run ≡ true → g.granted_of j.run ≡ j.target)
 
-  -- each horizon is below the next one's
+  -- each key is below the next one's
   abbrev pub AreRising : List (JobView R) → Type 0
-  AreRising jobs = AllAdjacentBelow (λ a b. g.horizon_of a.run < g.horizon_of b.run) jobs (length jobs)
+  AreRising jobs = AllAdjacentBelow (λ a b. g.key_of a.run < g.key_of b.run) jobs (length jobs)
 
   -- the note of a step that puts or takes the job
   abbrev pub note_of : JobView R → Note
-  note_of j = record { horizon = g.horizon_of j.run; granted = g.granted_of j.run }
+  note_of j = record { key = g.key_of j.run; granted = g.granted_of j.run }
 
   -- the entry of the book that the job has
   abbrev pub entry_of : JobView R → BookEntry R
-  entry_of j = record { horizon = g.horizon_of j.run; target = j.target; origin = g.origin_of j.run }
+  entry_of j = record { key = g.key_of j.run; target = j.target; origin = g.origin_of j.run }
 
   abbrev pub IsEntryOf : JobView R → BookEntry R → Type 0
-  IsEntryOf j e = (e.horizon ≡ g.horizon_of j.run) × (e.target ≡ j.target) × (e.origin ≡ g.origin_of j.run)
+  IsEntryOf j e = (e.key ≡ g.key_of j.run) × (e.target ≡ j.target) × (e.origin ≡ g.origin_of j.run)
 
-  -- the job stands in the book: with its horizon, its target and its origin
+  -- the job stands in the book: with its key, its target and its origin
   abbrev pub IsListed : List (BookEntry R) → JobView R → Type 0
   IsListed book j = (k : ℕ) × (e : BookEntry R) × (get_elem? book k ≡ some e) × IsEntryOf j e
 

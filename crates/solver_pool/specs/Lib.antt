@@ -5,6 +5,7 @@ pub mod Rule
 pub mod Steps
 pub mod Ring
 pub mod Serve
+pub mod Left
 pub mod Worker
 pub mod Rounds
 pub mod CountRun

@@ -17,7 +17,7 @@ abbrev pub ended_view : {R : Type 0} → PassView R
 ended_view = record { owner = false; ended = true; out = 0; book = []; put = []; took = [] }
 
 abbrev pub note : ℕ → ℕ → Note
-note horizon granted = record { horizon = horizon; granted = granted }
+note key granted = record { key = key; granted = granted }
 
 -- the pass after a put, and after a take
 abbrev pub with_put : {R : Type 0} → PassView R → Note → PassView R
@@ -37,19 +37,23 @@ with_pass_out v = record v { out = v.out + 1 }
 abbrev pub with_pass_in : {R : Type 0} → PassView R → PassView R → PassView R
 with_pass_in v u = record v { out = v.out - 1; put = v.put ++ u.put; took = v.took ++ u.took }
 
--- how many notes are of this horizon
+-- how many notes are of this key
 abbrev pub count_of : ℕ → List Note → ℕ
-count_of h notes = count_by (λ n. n.horizon == h) notes
+count_of h notes = count_by (λ n. n.key == h) notes
 
 -- how many of these passes did not end
 abbrev pub live_count : {R : Type 0} → List (PassView R) → ℕ
 live_count views = count_by (λ v. not v.ended) views
 
--- the owner's pass, while no other is out and it may put one job more
+-- the owner's pass, while no other is out
 abbrev pub IsAlone : {R : Type 0} → PassView R → Type 0
-IsAlone v = (v.owner ≡ true) × (v.out ≡ 0) × (length v.put < length v.took + 16)
+IsAlone v = (v.owner ≡ true) × (v.out ≡ 0)
 
--- the pass holds a job of this horizon: a worker's took it and did not put it back, and the owner's may put up to 16 more than it took
+-- the owner's pass, while no other is out and it may put one job more
+abbrev pub MayOpen : {R : Type 0} → PassView R → Type 0
+MayOpen v = IsAlone v × (length v.put < length v.took + 16)
+
+-- the pass holds a job of this key: a worker's took it and did not put it back, and the owner's may put up to 16 more than it took
 abbrev pub MayPut : {R : Type 0} → PassView R → ℕ → Type 0
 MayPut v h =
     (v.owner ≡ true → length v.put < length v.took + 16)

@@ -9,7 +9,7 @@ use Rattle.solver_pool.specs.Ring.{IsOpened}
 use Rattle.solver_pool.specs.Worker.{IsHanded}
 
 module _ {R : Type 0} (g : Ghosts R) where
-  -- each job once, with its horizon, its target and its origin; in rising order of horizon; each at its target
+  -- each job once, with its key, its target and its origin; in rising order of key; each at its target
   pub record IsRound (jobs out : List (JobView R)) : Type 0 where
     pub once : IsPermutation (map (entry_of g) jobs) (map (entry_of g) out)
     pub rising : AreRising g out
@@ -19,7 +19,7 @@ module _ {R : Type 0} (g : Ghosts R) where
   abbrev pub IsBeginning : List (JobView R) → Worker R g → Type 0
   IsBeginning jobs w = IsOpened g jobs (view w.pass.pass) × (w.done.items ≡ []) × (w.failed ≡ false)
 
-  -- each horizon is done as often as there is a job of it, and each is a job of the book that is spoilt or at its target
+  -- each key is done as often as there is a job of it, and each is a job of the book that is spoilt or at its target
   pub record AreServed (jobs done : List (JobView R)) : Type 0 where
-    pub once : (f : ℕ → ℕ) → sum_by (λ j. f (g.horizon_of j.run)) done ≡ sum_by (λ j. f (g.horizon_of j.run)) jobs
+    pub once : (f : ℕ → ℕ) → sum_by (λ j. f (g.key_of j.run)) done ≡ sum_by (λ j. f (g.key_of j.run)) jobs
     pub each : All (IsHanded g (map (entry_of g) jobs)) done

@@ -7,10 +7,10 @@ use Rattle.solver_pool.specs.declared.resume.Resume.{Ghosts}
 use Rattle.solver_pool.specs.declared.pass_view.PassView.{PassView}
 use Rattle.solver_pool.specs.declared.pass_view.Note.{Note}
 use Rattle.solver_pool.specs.declared.pass_view.BookEntry.{BookEntry}
-use Rattle.solver_pool.specs.Job.{JobView, Differ, Fits, horizon_at, note_of}
+use Rattle.solver_pool.specs.Job.{JobView, Differ, Fits, key_at, note_of}
 use Rattle.solver_pool.specs.PassView.{count_of, live_count}
 
--- a worker's pass: it has the owner's book, or is ended and has no notes, and it put each horizon at most as often as it took it
+-- a worker's pass: it has the owner's book, or is ended and has no notes, and it put each key at most as often as it took it
 pub record IsWorkerView {R : Type 0} (book : List (BookEntry R)) (v : PassView R) : Type 0 where
   pub worker : v.owner ≡ false
   pub same : v.ended ≡ false → v.book ≡ book
@@ -22,7 +22,7 @@ module _ {R : Type 0} (g : Ghosts R) where
   -- of the jobs in the ring, the owner's pass and the workers' passes
   pub record IsLawful (jobs : List (JobView R)) (o : PassView R) (others : List (PassView R)) : Type 0 where
     pub owner : o.owner ≡ true
-    -- the jobs in the ring and all takes are all puts, each horizon and grant as often
+    -- the jobs in the ring and all takes are all puts, each key and grant as often
     pub all_notes : (f : Note → ℕ)
         → sum_by f o.put + sum_by (λ v. sum_by f v.put) others
         ≡ sum_by f o.took + sum_by (λ v. sum_by f v.took) others + sum_by (λ j. f (note_of g j)) jobs
@@ -31,7 +31,7 @@ module _ {R : Type 0} (g : Ghosts R) where
     pub count : live_count others ≡ o.out
     -- the owner put at most 16 more than it took
     pub few : length o.put ≤ length o.took + 16
-    pub differ : Differ horizon_at o.book
+    pub differ : Differ key_at o.book
     pub fits : All (Fits g o.book) jobs
 
   -- the same of a list of passes, the first of which is the owner's

@@ -9,7 +9,7 @@ use Rattle.solver_pool.specs.declared.pass_view.BookEntry.{BookEntry}
 use Rattle.solver_pool.specs.declared.serve.Served.{Served}
 use Rattle.solver_pool.specs.declared.serve.Served.TheVariants.{Back, Done, Idle}
 use Rattle.solver_pool.specs.Resume.{IsMoved}
-use Rattle.solver_pool.specs.Job.{JobView, Differ, IsAtTarget, horizon_at}
+use Rattle.solver_pool.specs.Job.{JobView, Differ, IsAtTarget, key_at}
 use Rattle.solver_pool.specs.PassView.{note, with_put, with_take}
 use Rattle.solver_pool.specs.Steps.{TookAll}
 
@@ -18,17 +18,17 @@ abbrev pub part_of : ℕ → ℕ → ℕ → ℕ
 part_of slice target granted = min slice (target - granted)
 
 module _ {R : Type 0} (g : Ghosts R) where
-  -- the take of a turn: the entry that the book gives for its horizon, and how many units the run had been granted
+  -- the take of a turn: the entry that the book gives for its key, and how many units the run had been granted
   pub record Turn (slice : ℕ) (before : PassView R) : Type 0 where
     pub place : ℕ
     pub entry : BookEntry R
     pub granted : ℕ
     pub at : get_elem? before.book place ≡ some entry
-    pub differ : Differ horizon_at before.book
+    pub differ : Differ key_at before.book
 
   -- the note of the take
   abbrev pub taken_note : (slice : ℕ) (before : PassView R) → Turn slice before → Note
-  taken_note slice before t = note t.entry.horizon t.granted
+  taken_note slice before t = note t.entry.key t.granted
 
   -- how many units the run has been granted after the turn
   abbrev pub granted_after : (slice : ℕ) (before : PassView R) → Turn slice before → ℕ
@@ -49,7 +49,7 @@ module _ {R : Type 0} (g : Ghosts R) where
 
   -- the job of the answer is the one that was taken, after its turn
   pub record IsDone (slice : ℕ) (before : PassView R) (j : JobView R) (t : Turn slice before) : Type 0 where
-    pub horizon : g.horizon_of j.run ≡ t.entry.horizon
+    pub key : g.key_of j.run ≡ t.entry.key
     pub target : j.target ≡ t.entry.target
     pub origin : g.origin_of j.run ≡ t.entry.origin
     pub run : HasServed slice before t j.run
@@ -63,7 +63,7 @@ module _ {R : Type 0} (g : Ghosts R) where
   ServedSays slice before after Idle = (after ≡ before) × TookAll before
   ServedSays slice before after Back =
       (t : Turn slice before) × GoesBack t.entry (granted_after slice before t)
-      × (after ≡ with_put (with_take before (taken_note slice before t)) (note t.entry.horizon (granted_after slice before t)))
+      × (after ≡ with_put (with_take before (taken_note slice before t)) (note t.entry.key (granted_after slice before t)))
   ServedSays slice before after (Done j) =
       (t : Turn slice before) × (after ≡ with_take before (taken_note slice before t)) × IsDone slice before j t × IsEnded j
 

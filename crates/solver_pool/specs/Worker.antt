@@ -8,15 +8,17 @@ use Rattle.solver_pool.specs.declared.pass_view.BookEntry.{BookEntry}
 use Rattle.solver_pool.specs.declared.ring.Ring.{Ring}
 use Rattle.solver_pool.specs.declared.worker.Worker.{Worker}
 use Rattle.solver_pool.specs.Job.{JobView, IsListed}
+use Rattle.solver_pool.specs.PassView.{IsAlone}
 use Rattle.solver_pool.specs.Ring.{IsRingPass}
 use Rattle.solver_pool.specs.Serve.{IsEnded}
+use Rattle.solver_pool.specs.Left.{Falls}
 
 module _ {R : Type 0} (g : Ghosts R) where
-  -- what the pass took, with what was begun, is what it put and what is done: each horizon as often
+  -- what the pass took, with what was begun, is what it put and what is done: each key as often
   abbrev pub IsBalanced : List ℕ → PassView R → List (JobView R) → Type 0
   IsBalanced begun v done = (f : ℕ → ℕ)
-      → sum_by (λ n. f n.horizon) v.took + sum_by f begun
-      ≡ sum_by (λ n. f n.horizon) v.put + sum_by (λ j. f (g.horizon_of j.run)) done
+      → sum_by (λ n. f n.key) v.took + sum_by f begun
+      ≡ sum_by (λ n. f n.key) v.put + sum_by (λ j. f (g.key_of j.run)) done
 
   -- a job of the book that is spoilt or at its target
   abbrev pub IsHanded : List (BookEntry R) → JobView R → Type 0
@@ -35,6 +37,14 @@ module _ {R : Type 0} (g : Ghosts R) where
   StaysAtWork k m =
       (owner : Bool) (out : ℕ) (book : List (BookEntry R)) (begun : List ℕ)
       → IsAtWork owner out book begun k → IsAtWork owner out book begun m
+
+  -- a worker that has the owner's pass, while no other is out
+  abbrev pub WorksAlone : Worker R g → Type 0
+  WorksAlone w = IsAlone (view w.pass.pass)
+
+  -- what it did alone left less to do
+  abbrev pub WorkFalls : Worker R g → Worker R g → Type 0
+  WorkFalls k m = Falls (view k.pass.pass) (view m.pass.pass)
 
   -- a worker with a pass of this ring
   abbrev pub IsWorkerOf : Ring R → Worker R g → Type 0

@@ -7,7 +7,7 @@ use crate::{Memory, Resume};
 /// and finds memory always. Tests use it in place of a solver.
 #[derive(Drop)]
 pub struct CountRun {
-    /// The horizon that it stands for.
+    /// Its key.
     pub horizon: u32,
     /// How many units settle it.
     pub need: u64,
@@ -32,7 +32,7 @@ impl Resume for CountRun {
     ghost use Rattle.std.specs.Prelude.{false, nat_lt};
     ghost use Rattle.solver_pool.specs.CountRun.{count_moved, count_state, count_state-unsettled};
 
-    ghost horizon_of = { λ r. r.horizon };
+    ghost key_of = { λ r. r.horizon };
 
     ghost granted_of = { λ r. r.granted };
 

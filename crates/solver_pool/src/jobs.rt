@@ -1,6 +1,6 @@
 // A list of jobs.
 ghost use Rattle.std.specs.Prelude.{◌≡◌, ◌↔◌, true, length, IsTrue};
-ghost use Rattle.solver_pool.specs.Job.{Differ, horizon_in, AreSound, AreRising};
+ghost use Rattle.solver_pool.specs.Job.{Differ, key_in, AreSound, AreRising};
 
 use crate::sorted::are_sound;
 use crate::{Job, Resume};
@@ -57,10 +57,10 @@ impl<R: Resume> Jobs<R> {
         self.items.is_empty()
     }
 
-    /// Whether each horizon is above the one before it. Then they differ, which is what [`crate::round`] asks.
+    /// Whether each key is above the one before it. Then they differ, which is what [`crate::round`] asks.
     pub fn are_rising(&self) -> bool
         ensures value { IsTrue result ↔ AreRising R.Resume self.now }
-        ensures differ { result ≡ true → Differ (horizon_in R.Resume) self.now }
+        ensures differ { result ≡ true → Differ (key_in R.Resume) self.now }
     {
         are_rising(self.as_slice())
     }
@@ -75,15 +75,15 @@ impl<R: Resume> Jobs<R> {
 
 fn are_rising<R: Resume>(jobs: &[Job<R>]) -> bool
     ensures value { IsTrue result ↔ AreRising R.Resume jobs.now }
-    ensures differ { result ≡ true → Differ (horizon_in R.Resume) jobs.now }
+    ensures differ { result ≡ true → Differ (key_in R.Resume) jobs.now }
 {
     let mut least = 0u64;
     for job in jobs {
-        let horizon = job.run.horizon() as u64;
-        if horizon < least {
+        let key = job.run.horizon() as u64;
+        if key < least {
             return false;
         }
-        least = horizon + 1;
+        least = key + 1;
     }
     true
 }

@@ -1,11 +1,11 @@
 //! A pool of workers that advance stopped runs, each up to its target, and pass them on to one another through a ring.
 //!
-//! A [`Resume`] is a run that can be stopped after any number of units and advanced later: a solver that counts
-//! conflicts, say. A [`Job`] is a run with a target. [`round`] brings each job to its target with several workers:
+//! A [`Resume`] is a run that can be stopped after any number of units and advanced later: a solver, whose
+//! units are conflicts, say. A [`Job`] is a run with a target. [`round`] brings each job to its target with several workers:
 //!
 //! ```text
 //! let back = round(rt, alloc, jobs, 4, 10, &OpenGate)?;    // 4 workers, turns of 10 units
-//! for job in back.as_slice() { .. }                        // in rising order of horizon, each at its target
+//! for job in back.as_slice() { .. }                        // in rising order of key, each at its target
 //! ```
 //!
 //! In between, the jobs stand in a [`Ring`]. A worker that holds a [`Pass`] takes one, advances it by a slice, and

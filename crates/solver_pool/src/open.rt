@@ -1,8 +1,8 @@
 // How a ring is opened.
 ghost use Rattle.std.specs.Prelude.{◌≡◌, ◌≤◌, false, IfOk, length};
 ghost use Rattle.crossbeam_queue.specs.Passes.{view};
-ghost use Rattle.solver_pool.specs.Job.{Differ, IsNew, AreSound, horizon_in};
-ghost use Rattle.solver_pool.specs.PassView.{IsAlone};
+ghost use Rattle.solver_pool.specs.Job.{Differ, IsNew, AreSound, key_in};
+ghost use Rattle.solver_pool.specs.PassView.{MayOpen};
 ghost use Rattle.solver_pool.specs.Steps.{Opens};
 ghost use Rattle.solver_pool.specs.Ring.{IsOwnerPass, IsOpened};
 
@@ -24,7 +24,7 @@ impl<R: Resume> Ring<R> {
     /// and has given no pass out. Where memory is wanting, the jobs are let go.
     pub fn open<H: Wait>(rt: &H, alloc: Global, jobs: Jobs<R>) -> Result<Opened<R>, Memory>
         requires few { length jobs ≤ 16 }
-        requires differ { Differ (horizon_in R.Resume) jobs }
+        requires differ { Differ (key_in R.Resume) jobs }
         requires sound { AreSound R.Resume jobs }
         ensures owner { IfOk result (λ r. IsOwnerPass R.Resume r.ring r.owner) }
         ensures opened { IfOk result (λ r. IsOpened R.Resume jobs (view r.owner.pass)) }
@@ -40,8 +40,8 @@ impl<R: Resume> Ring<R> {
 /// Puts a job and enters it in the book.
 fn put_one<R: Resume, H: Wait>(rt: &H, ring: &Ring<R>, owner: &mut Pass<R>, job: Job<R>)
     requires owner { IsOwnerPass R.Resume ring.now owner.old }
-    requires alone { IsAlone (view owner.old.pass) }
-    requires new { IsNew (view owner.old.pass).book (R.horizon_of job.run) }
+    requires alone { MayOpen (view owner.old.pass) }
+    requires new { IsNew (view owner.old.pass).book (R.key_of job.run) }
     requires sound { R.spoilt_at job.run ≡ false }
     ensures owner { IsOwnerPass R.Resume ring.now owner.new }
     ensures noted { Opens R.Resume (view owner.old.pass) job (view owner.new.pass) }

@@ -3,18 +3,18 @@ use std::collections::LinkedList;
 
 /// A job with which a ring was opened.
 pub struct BookEntry<R> {
-    /// The horizon of its run.
-    pub horizon: u32,
+    /// The key of its run.
+    pub key: u32,
     /// How many units its run is to be granted in all.
     pub target: u64,
     /// Its run before any unit.
     pub origin: R,
 }
 
-/// One put or one take: of the job of which horizon, and how many units its run had been granted by then.
+/// One put or one take: of the job of which key, and how many units its run had been granted by then.
 pub struct Note {
-    /// The horizon of the job's run.
-    pub horizon: u32,
+    /// The key of the job's run.
+    pub key: u32,
     /// How many units the run had been granted by then.
     pub granted: u64,
 }

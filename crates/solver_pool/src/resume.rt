@@ -9,8 +9,8 @@ use crate::Memory;
 /// granted. So advancing by a and then by b is advancing by a + b: the clause `moved` of `advance` holds for every k.
 /// A run that found no memory is spoilt from then on: it stays as it is, and what state that is in is not said.
 pub trait Resume: Drop {
-    /// Of which horizon it is a run.
-    ghost horizon_of: { Self → ℕ };
+    /// The number by which it is told from the other runs of a round, and by which they are ordered.
+    ghost key_of: { Self → ℕ };
 
     /// How many units it was granted.
     ghost granted_of: { Self → ℕ };
@@ -35,8 +35,8 @@ pub trait Resume: Drop {
     fn advance(&mut self, conflicts: u32) -> Result<(), Memory>
         requires { granted_of self.old + conflicts ≤ 1073741824 }
 
-        // Its horizon and its origin stay.
-        ensures horizon { horizon_of self.new ≡ horizon_of self.old }
+        // Its key and its origin stay.
+        ensures key { key_of self.new ≡ key_of self.old }
         ensures origin { origin_of self.new ≡ origin_of self.old }
 
         ensures granted { OnOk result (granted_of self.new ≡ granted_of self.old + conflicts) }
@@ -51,8 +51,9 @@ pub trait Resume: Drop {
         ensures sane { OnOk result (spoilt_at self.old ≡ false) }
         ensures stays { spoilt_at self.old ≡ true → self.new ≡ self.old };
 
+    /// Its key; for the run of a solver, its horizon.
     fn horizon(&self) -> u32
-        ensures { result ≡ horizon_of self.now };
+        ensures { result ≡ key_of self.now };
 
     /// Whether it has more to do. Once it has not, more units leave it as it is, apart from what it was granted.
     fn unsettled(&self) -> bool
@@ -72,7 +73,7 @@ pub trait Resume: Drop {
     /// May do the work of one unit that was not granted yet, so that it takes less time once it is granted. For its clients the
     /// run stays as it is, or it is spoilt. It says whether it did.
     fn work_ahead(&mut self) -> bool
-        ensures horizon { horizon_of self.new ≡ horizon_of self.old }
+        ensures key { key_of self.new ≡ key_of self.old }
         ensures origin { origin_of self.new ≡ origin_of self.old }
         ensures granted { granted_of self.new ≡ granted_of self.old }
         ensures same { spoilt_at self.new ≡ false → self.new ≡ self.old }

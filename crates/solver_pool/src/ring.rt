@@ -38,15 +38,34 @@ impl<R: Resume> Ring<R> {
         ensures counted { IfOk result (λ p. view owner.new.pass ≡ with_pass_out (view owner.old.pass)) }
         ensures memory { OnErr result (view owner.new.pass ≡ view owner.old.pass) }
     {
-        Ok(Pass {
+        Ok(self.give_out(owner))
+    }
+
+    /// The same as [`Ring::give`]: it waits for nobody, and takes no memory.
+    pub(crate) fn give_out(&self, owner: &mut Pass<R>) -> Pass<R>
+        requires { IsOwnerPass R.Resume self.now owner.old }
+        ensures owner { IsOwnerPass R.Resume self.now owner.new }
+        ensures given { IsWorkerPass R.Resume self.now result × (view result.pass ≡ worker_view (view owner.old.pass).book) }
+        ensures counted { view owner.new.pass ≡ with_pass_out (view owner.old.pass) }
+    {
+        Pass {
             pass: self.queue.another::<GiveOut>(&mut owner.pass),
-        })
+        }
     }
 
     /// Takes in a worker's pass: its notes move into the owner's, which counts one pass less.
     pub fn take_in<H: Wait>(&self, _rt: &H, owner: &mut Pass<R>, ended: Pass<R>)
         requires owner { IsOwnerPass R.Resume self.now owner.old }
         requires worker { IsWorkerPass R.Resume self.now ended }
+        ensures owner { IsOwnerPass R.Resume self.now owner.new }
+        ensures noted { view owner.new.pass ≡ with_pass_in (view owner.old.pass) (view ended.pass) }
+    {
+        self.take_back(owner, ended);
+    }
+
+    /// The same as [`Ring::take_in`]: it waits for nobody.
+    pub(crate) fn take_back(&self, owner: &mut Pass<R>, ended: Pass<R>)
+        requires { IsOwnerPass R.Resume self.now owner.old × IsWorkerPass R.Resume self.now ended }
         ensures owner { IsOwnerPass R.Resume self.now owner.new }
         ensures noted { view owner.new.pass ≡ with_pass_in (view owner.old.pass) (view ended.pass) }
     {

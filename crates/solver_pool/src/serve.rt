@@ -4,6 +4,7 @@ ghost use Rattle.crossbeam_queue.specs.Passes.{view};
 ghost use Rattle.solver_pool.specs.Resume.{IsMoved, SettledStays};
 ghost use Rattle.solver_pool.specs.Ring.{IsRingPass, IsSlice};
 ghost use Rattle.solver_pool.specs.Serve.{ServedSays, GoesOn, IsAdvanced, IsEnded};
+ghost use Rattle.solver_pool.specs.Left.{FallsOrIdle};
 
 use crate::one_turn::units_of_turn;
 use crate::{Gate, Job, Pass, Resume, Ring};
@@ -36,6 +37,9 @@ pub fn serve_one<R: Resume, G: Gate, H: Wait>(
     ensures pass { IsRingPass R.Resume ring.now pass.new }
     ensures owner { (view pass.new.pass).owner ≡ (view pass.old.pass).owner }
     ensures served { ServedSays R.Resume slice (view pass.old.pass) (view pass.new.pass) result }
+
+    // Turns of the owner alone come to an end.
+    ensures falls { FallsOrIdle (view pass.old.pass) (view pass.new.pass) result }
 {
     match ring.take(rt, pass) {
         Some(mut job) => {
@@ -54,21 +58,22 @@ pub fn serve_one<R: Resume, G: Gate, H: Wait>(
 fn advance_job<R: Resume, G: Gate>(job: &mut Job<R>, slice: u32, gate: &G) -> bool
     requires moved { IsMoved R.Resume (R.origin_of job.old.run) (R.granted_of job.old.run) job.old.run }
     requires sound { R.spoilt_at job.old.run ≡ false }
-    ensures horizon { R.horizon_of job.new.run ≡ R.horizon_of job.old.run }
+    ensures key { R.key_of job.new.run ≡ R.key_of job.old.run }
     ensures target { job.new.target ≡ job.old.target }
+    ensures within { job.old.target ≤ 1073741824 }
     ensures origin { R.origin_of job.new.run ≡ R.origin_of job.old.run }
     ensures run { IsAdvanced R.Resume slice job.old job.new }
     ensures ended { result ≡ false → IsEnded R.Resume job.new }
     ensures back { IsTrue result ↔ GoesOn R.Resume job.new }
 {
-    let horizon = job.run.horizon();
+    let key = job.run.horizon();
     let left = job.target - job.run.granted();
     let part = units_of_turn(left, slice);
-    gate.enter(horizon);
+    gate.enter(key);
 
     // A run that found no memory says so itself.
     let _ = job.run.advance(part);
-    gate.leave(horizon);
+    gate.leave(key);
     goes_on(job)
 }
 

@@ -4,7 +4,7 @@ ghost use Rattle.std.specs.Prelude.{◌≡◌, ◌≤◌, false, IfOk, MatchOpti
 ghost use Rattle.crossbeam_queue.specs.Passes.{view};
 ghost use Rattle.solver_pool.specs.Resume.{IsMoved};
 ghost use Rattle.solver_pool.specs.Job.{Fits, IsNew};
-ghost use Rattle.solver_pool.specs.PassView.{owner_view, IsAlone, MayPut};
+ghost use Rattle.solver_pool.specs.PassView.{owner_view, MayOpen, MayPut};
 ghost use Rattle.solver_pool.specs.Steps.{Opens, Puts, Takes, TookAll};
 ghost use Rattle.solver_pool.specs.Ring.{IsRingPass};
 
@@ -28,8 +28,8 @@ impl<R: Resume> Ring<R> {
     /// Puts a job with which the ring is opened, and enters it in the book.
     pub(crate) fn put_first<H: Wait>(&self, rt: &H, owner: &mut Pass<R>, job: Job<R>)
         requires pass { IsRingPass R.Resume self.now owner.old }
-        requires alone { IsAlone (view owner.old.pass) }
-        requires new { IsNew (view owner.old.pass).book (R.horizon_of job.run) }
+        requires alone { MayOpen (view owner.old.pass) }
+        requires new { IsNew (view owner.old.pass).book (R.key_of job.run) }
         requires moved { IsMoved R.Resume (R.origin_of job.run) (R.granted_of job.run) job.run }
         requires within { R.granted_of job.run ≤ job.target }
         requires sound { R.spoilt_at job.run ≡ false }
@@ -45,7 +45,7 @@ impl<R: Resume> Ring<R> {
     /// Returns a job that was taken.
     pub(crate) fn put_back<H: Wait>(&self, rt: &H, pass: &mut Pass<R>, job: Job<R>)
         requires pass { IsRingPass R.Resume self.now pass.old }
-        requires may { MayPut (view pass.old.pass) (R.horizon_of job.run) }
+        requires may { MayPut (view pass.old.pass) (R.key_of job.run) }
         requires fits { Fits R.Resume (view pass.old.pass).book job }
         ensures pass { IsRingPass R.Resume self.now pass.new }
         ensures noted { Puts R.Resume (view pass.old.pass) job (view pass.new.pass) }

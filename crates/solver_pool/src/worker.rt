@@ -1,10 +1,10 @@
 // One worker of a round.
-ghost use Rattle.std.specs.Prelude.{◌≡◌, IsTrue};
+ghost use Rattle.std.specs.Prelude.{◌≡◌, false, IsTrue};
 ghost use Rattle.crossbeam_queue.specs.Passes.{view};
 ghost use Rattle.solver_pool.specs.Steps.{TookAll};
 ghost use Rattle.solver_pool.specs.Ring.{IsRingPass, IsSlice};
 ghost use Rattle.solver_pool.specs.Serve.{IsEnded};
-ghost use Rattle.solver_pool.specs.Worker.{StaysAtWork};
+ghost use Rattle.solver_pool.specs.Worker.{StaysAtWork, WorksAlone, WorkFalls};
 
 use crate::crew::Crew;
 use crate::one_turn::put_or_note;
@@ -21,7 +21,7 @@ pub(crate) struct Worker<R: Resume> {
 
 /// Works a unit ahead on the run of a job that is done. Says whether it did.
 fn go_ahead<R: Resume>(job: &mut Job<R>) -> bool
-    ensures horizon { R.horizon_of job.new.run ≡ R.horizon_of job.old.run }
+    ensures key { R.key_of job.new.run ≡ R.key_of job.old.run }
     ensures origin { R.origin_of job.new.run ≡ R.origin_of job.old.run }
     ensures target { job.new.target ≡ job.old.target }
     ensures ended { IsEnded R.Resume job.old → IsEnded R.Resume job.new }
@@ -31,7 +31,7 @@ fn go_ahead<R: Resume>(job: &mut Job<R>) -> bool
 
 /// Works ahead on the run of a job that is done, while others are not and there is no other job to do.
 fn work_ahead<R: Resume>(job: &mut Job<R>, crew: &Crew)
-    ensures horizon { R.horizon_of job.new.run ≡ R.horizon_of job.old.run }
+    ensures key { R.key_of job.new.run ≡ R.key_of job.old.run }
     ensures origin { R.origin_of job.new.run ≡ R.origin_of job.old.run }
     ensures target { job.new.target ≡ job.old.target }
     ensures ended { IsEnded R.Resume job.old → IsEnded R.Resume job.new }
@@ -58,6 +58,7 @@ fn turn<R: Resume, G: Gate, H: Wait>(
     ensures pass { IsRingPass R.Resume ring.now worker.new.pass }
     ensures work { StaysAtWork R.Resume worker.old worker.new }
     ensures empty { IsTrue result → TookAll (view worker.new.pass.pass) }
+    ensures falls { result ≡ false → WorkFalls R.Resume worker.old worker.new }
 {
     match serve_one(rt, ring, &mut worker.pass, slice, gate) {
         Served::Back => false,
@@ -92,7 +93,7 @@ pub(crate) fn work<R: Resume, G: Gate, H: Wait>(
     worker
 }
 
-/// Serves until the ring is found empty.
+/// Serves until the ring is found empty, as the owner, while no worker's pass is out.
 pub(crate) fn finish<R: Resume, G: Gate, H: Wait>(
     rt: &H,
     ring: &Ring<R>,
@@ -103,14 +104,11 @@ pub(crate) fn finish<R: Resume, G: Gate, H: Wait>(
 ) -> Worker<R>
     requires pass { IsRingPass R.Resume ring.now worker.pass }
     requires slice { IsSlice slice }
+    requires alone { WorksAlone R.Resume worker }
     ensures pass { IsRingPass R.Resume ring.now result.pass }
     ensures work { StaysAtWork R.Resume worker result }
     ensures empty { TookAll (view result.pass.pass) }
 {
-    for _turn in rt.forever() {
-        if turn(rt, ring, &mut worker, slice, gate, crew) {
-            return worker;
-        }
-    }
-    unreachable!()
+    while !turn(rt, ring, &mut worker, slice, gate, crew) {}
+    worker
 }

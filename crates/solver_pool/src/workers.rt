@@ -15,8 +15,7 @@ use std::thread;
 use std::thread::Threads;
 
 /// So many workers, each with a pass that the owner gave out.
-pub(crate) fn new_workers<R: Resume, H: Wait>(
-    rt: &H,
+pub(crate) fn new_workers<R: Resume>(
     ring: &Ring<R>,
     owner: &mut Worker<R>,
     alloc: Global,
@@ -30,9 +29,8 @@ pub(crate) fn new_workers<R: Resume, H: Wait>(
 {
     let mut workers = Vec::new(alloc);
     for _i in 0..count {
-        let pass = ring.give(rt, &mut owner.pass)?;
         let worker = Worker {
-            pass,
+            pass: ring.give_out(&mut owner.pass),
             done: Vec::new(alloc),
             failed: false,
         };
@@ -72,7 +70,7 @@ pub(crate) fn all_work<R: Resume + Send, G: Gate, H: Threads + Wait + Sync>(
 }
 
 /// Takes in one worker's pass, and the jobs that it is done with.
-fn take_in_one<R: Resume, H: Wait>(rt: &H, ring: &Ring<R>, owner: &mut Worker<R>, worker: Worker<R>)
+fn take_in_one<R: Resume>(ring: &Ring<R>, owner: &mut Worker<R>, worker: Worker<R>)
     requires passes { IsRingPass R.Resume ring.now owner.old.pass × IsWorkerOf R.Resume ring.now worker }
     requires owns { (view owner.old.pass.pass).owner ≡ true }
     requires worker { HasWorkerPass R.Resume worker }
@@ -85,7 +83,7 @@ fn take_in_one<R: Resume, H: Wait>(rt: &H, ring: &Ring<R>, owner: &mut Worker<R>
         mut done,
         failed,
     } = worker;
-    ring.take_in(rt, &mut owner.pass, pass);
+    ring.take_back(&mut owner.pass, pass);
     match owner.done.append(&mut done) {
         Ok(()) => owner.failed = owner.failed | failed,
         Err(_) => owner.failed = true,
@@ -93,8 +91,7 @@ fn take_in_one<R: Resume, H: Wait>(rt: &H, ring: &Ring<R>, owner: &mut Worker<R>
 }
 
 /// Takes in all workers.
-pub(crate) fn take_in_all<R: Resume, H: Wait>(
-    rt: &H,
+pub(crate) fn take_in_all<R: Resume>(
     ring: &Ring<R>,
     owner: &mut Worker<R>,
     mut workers: Vec<Worker<R>>,
@@ -107,6 +104,6 @@ pub(crate) fn take_in_all<R: Resume, H: Wait>(
     ensures work { TakesAllIn R.Resume owner.old workers.items owner.new }
 {
     while let Some(worker) = workers.pop() {
-        take_in_one(rt, ring, owner, worker);
+        take_in_one(ring, owner, worker);
     }
 }

@@ -1,5 +1,5 @@
 //! Which clause is the first that is kept and pending, as literals become true and are taken back and clauses come and go.
-ghost use Rattle.std.specs.Prelude.{◌≡◌, ℕ, ◌*◌, ◌<◌, ◌++◌, ◌∷◌, [], take, length, replicate, true, false, slice_set, slice_index_or, IfOk, OnOk, OnErr, MatchOption};
+ghost use Rattle.std.specs.Prelude.{◌≡◌, ℕ, ◌+◌, ◌*◌, ◌<◌, ◌≤◌, ◌++◌, ◌∷◌, [], take, length, replicate, true, false, slice_set, slice_index_or, IfOk, OnOk, OnErr, MatchOption};
 ghost use Rattle.clause_base.specs.Literal.{opposite};
 ghost use Rattle.clause_base.specs.Clause.{IsClause, has_literal, HasVariablesBelow};
 ghost use Rattle.cdcl_rules.specs.State.{clause_at};
@@ -13,6 +13,7 @@ use clause_base::formula::Formula;
 use clause_base::literal::Lit;
 use clause_base::memory::Memory;
 use containers::let_go;
+use propagation::known::Known;
 use propagation::propagator::Propagator;
 use std::alloc::Global;
 use std::marker::Model;
@@ -22,27 +23,33 @@ use std::marker::Model;
 pub struct Watches {
     propagator: Propagator,
     first: Option<Event>,
+    /// For each length of the trail below the whole one which clauses are pending there, of those that there were when it had that
+    /// length: no others are looked at where it is taken back to it.
+    known: Vec<Known>,
 }
 
 impl Model for Watches {
-    ghost use Rattle.std.specs.Prelude.{◌≡◌};
+    ghost use Rattle.std.specs.Prelude.{◌≡◌, ◌*◌};
     ghost use Rattle.clause_base.specs.Clause.{has_literal};
     ghost use Rattle.cdcl_trail.specs.Assignment.{literals};
     ghost use Rattle.propagation.specs.Front.{first_asked};
+    ghost use Rattle.watch_lists.specs.Known.{AreKnown};
     ghost use Rattle.watch_lists.specs.Pending.{WatchesView, without_reasons};
 
     ghost Value = { WatchesView };
 
     ghost view = { λ w. without_reasons w.propagator };
 
-    // What is asked first is known.
-    ghost invariant = { λ w. w.first ≡ first_asked w.propagator.clauses w.propagator.kept (has_literal (literals w.propagator.entries)) };
+    // What is asked first is known, and so is what was pending at each length.
+    ghost invariant = { λ w. (w.first ≡ first_asked w.propagator.clauses w.propagator.kept (has_literal (literals w.propagator.entries))) × AreKnown w.propagator w.known.items };
 }
 
 /// Letting one go is one call, in which its parts go: whoever holds one proves one step.
 impl Drop for Watches {
     fn drop(self) {
-        let_go!(self: Watches { propagator, first });
+        let_go!(self: Watches {
+            propagator, first, known
+        });
     }
 }
 
@@ -58,6 +65,14 @@ fn number_in(event: &Event) -> Option<u32>
     }
 }
 
+/// For each length of the trail up to the whole one, that any clauses may be pending there.
+fn none_known(alloc: Global, variables: u32) -> Result<Vec<Known>, Memory>
+    requires { variables ≤ 2147483647 }
+    ensures { IfOk result (λ known. length known.items ≡ variables + 1) }
+{
+    Ok(vec![in alloc; Known::none_below(0); variables as usize + 1]?)
+}
+
 impl Watches {
     /// The clauses of a formula, all kept, where no variable has a value.
     pub fn new(alloc: Global, formula: &Formula) -> Result<Watches, Memory>
@@ -65,7 +80,12 @@ impl Watches {
     {
         let mut propagator = Propagator::new(alloc, formula)?;
         let first = propagator.next();
-        Ok(Watches { propagator, first })
+        let known = none_known(alloc, formula.variables())?;
+        Ok(Watches {
+            propagator,
+            first,
+            known,
+        })
     }
 
     /// Adds a clause with the next number, kept; it may be false or have one literal left. There may be as many clauses as the two
@@ -100,6 +120,9 @@ impl Watches {
         requires free { has_literal self.old.trail (opposite lit) ≡ false }
         ensures { self.new ≡ record self.old { trail = self.old.trail ++ lit ∷ [] } }
     {
+        let length = self.propagator.trail().length();
+        let known = self.propagator.known();
+        self.known[length as usize] = known;
         self.propagator.assign(Assigned {
             literal: lit,
             reason: Some(0),
@@ -111,7 +134,11 @@ impl Watches {
     pub fn undo_to(&mut self, length: u32)
         ensures { self.new ≡ record self.old { trail = take length self.old.trail } }
     {
-        self.propagator.cut(length);
+        if length >= self.propagator.trail().length() {
+            return;
+        }
+        let known = self.known[length as usize];
+        self.propagator.cut(length, &known.numbers, known.from);
         self.first = self.propagator.next();
     }
 

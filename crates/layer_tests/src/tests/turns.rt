@@ -18,7 +18,7 @@ struct ToldRun<'a> {
 }
 
 impl Resume for ToldRun<'_> {
-    ghost horizon_of = { λ r. r.run.horizon };
+    ghost key_of = { λ r. r.run.horizon };
 
     ghost granted_of = { λ r. r.run.granted };
 

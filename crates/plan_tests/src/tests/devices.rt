@@ -2,16 +2,16 @@
 use super::runs::{Named, TurnNotes, ample_sink, holds, is_first, is_same, shelf_of, status_of};
 use super::tasks::{DARK, LAMP, LAMP_PLAN};
 use pl_io::{MemSink, Numbers};
+use poll_run::NoDriver;
 use std::alloc::{AllocGlobal, Global};
 use std::process::Abort;
-use std::random::RandomSource;
 use std::sync::Wait;
 use std::thread::Threads;
 
 const FILES: [Named<'static>; 3] = [("d", LAMP), ("p", DARK), ("l", b"(flip)")];
 
 // A run that ends well, though this call of the shelf would fail, which is not made.
-fn stops_before<H: Threads + Wait + Sync + RandomSource + AllocGlobal + Abort>(
+fn stops_before<H: Threads + Wait + Sync + AllocGlobal + Abort>(
     rt: &H,
     alloc: Global,
     words: &str,
@@ -19,7 +19,9 @@ fn stops_before<H: Threads + Wait + Sync + RandomSource + AllocGlobal + Abort>(
 ) {
     let mut shelf = shelf_of(rt, alloc, &FILES, &[call]);
     let mut sink = ample_sink(rt, alloc);
-    let status = status_of(rt, alloc, words, &mut shelf, &mut sink, &TurnNotes::new());
+    let mut driver = NoDriver::new();
+    let gate = TurnNotes::new();
+    let status = status_of(rt, alloc, words, &mut shelf, &mut sink, &gate, &mut driver);
     holds(rt, status == 0 && shelf.failed().is_empty(), words);
 }
 
@@ -40,7 +42,9 @@ fn driver_fails(rt: HostRuntime) {
     let (alloc, words) = (rt.alloc(), "batch d p");
     let mut shelf = shelf_of(&rt, alloc, &FILES, &[3]);
     let mut sink = ample_sink(&rt, alloc);
-    let status = status_of(&rt, alloc, words, &mut shelf, &mut sink, &TurnNotes::new());
+    let mut driver = NoDriver::new();
+    let gate = TurnNotes::new();
+    let status = status_of(&rt, alloc, words, &mut shelf, &mut sink, &gate, &mut driver);
     let is = status == 0 && shelf.failed().is_empty() && is_first(sink.taken(), LAMP_PLAN);
     holds(&rt, is, words);
 }
@@ -54,7 +58,9 @@ fn sink_fails_at_a_call(rt: HostRuntime) {
     let mut sink = MemSink::new(alloc, 10, failing, 1000)
         .ok()
         .expect(&rt, "memory");
-    let status = status_of(&rt, alloc, words, &mut shelf, &mut sink, &TurnNotes::new());
+    let mut driver = NoDriver::new();
+    let gate = TurnNotes::new();
+    let status = status_of(&rt, alloc, words, &mut shelf, &mut sink, &gate, &mut driver);
     let is = status == 6 && sink.faults() == 1 && is_same(sink.taken(), "; horizon ");
     holds(&rt, is, words);
 }

@@ -1,5 +1,5 @@
 // Batches under a driver that counts how often they are polled.
-use super::runs::{Named, TurnNotes, ample_sink, driven, holds, is_first, shelf_of};
+use super::runs::{Named, TurnNotes, ample_sink, holds, is_first, shelf_of, status_of};
 use super::tasks::{BLOCKS, TOWER, TOWER_PLAN};
 use counting_driver::Counting;
 use std::alloc::{AllocGlobal, Global};
@@ -22,7 +22,7 @@ fn polls_of<H: Threads + Wait + Sync + RandomSource + AllocGlobal + Abort>(
     let mut shelf = shelf_of(rt, alloc, &FILES, &[]);
     let mut sink = ample_sink(rt, alloc);
     let gate = TurnNotes::new();
-    let status = driven(rt, alloc, words, &mut shelf, &mut sink, &gate, &mut driver);
+    let status = status_of(rt, alloc, words, &mut shelf, &mut sink, &gate, &mut driver);
     holds(rt, status == 0 && is_first(sink.taken(), TOWER_PLAN), words);
     polls.load(Ordering::SeqCst)
 }

@@ -1,14 +1,12 @@
 // Runs of the planner in memory.
 use containers::let_go;
-use counting_driver::Counting;
 use pl_io::{Bytes, Files, MemShelf, MemSink, NamedFile, Numbers};
 use plan_top::run;
+use poll_run::Driver;
 use solver_pool::Gate;
 use std::alloc::{AllocGlobal, Global};
 use std::process::Abort;
-use std::random::RandomSource;
 use std::sync::Wait;
-use std::sync::atomic::AtomicU64;
 use std::thread::Threads;
 use test_gates::{CountGate, Notes, PairGate};
 
@@ -123,29 +121,15 @@ impl Gate for TurnNotes {
 }
 
 /// The status with which a run on a shelf, into a sink, at a gate and with a driver ends.
-pub(crate) fn driven<H: Threads + Wait + Sync + RandomSource + AllocGlobal + Abort>(
+pub(crate) fn status_of<H: Threads + Wait + Sync + AllocGlobal + Abort, D: Driver>(
     rt: &H,
     alloc: Global,
     words: &str,
     shelf: &mut MemShelf,
     sink: &mut MemSink,
     gate: &TurnNotes,
-    driver: &mut Counting<'_, H>,
+    driver: &mut D,
 ) -> u8 {
     let words = split(rt, alloc, words);
     run(rt, alloc, &words, shelf, sink, gate, driver).0
-}
-
-/// The same with a driver that fails.
-pub(crate) fn status_of<H: Threads + Wait + Sync + RandomSource + AllocGlobal + Abort>(
-    rt: &H,
-    alloc: Global,
-    words: &str,
-    shelf: &mut MemShelf,
-    sink: &mut MemSink,
-    gate: &TurnNotes,
-) -> u8 {
-    let polls = AtomicU64::new(0);
-    let mut driver = Counting::failing(rt, &polls);
-    driven(rt, alloc, words, shelf, sink, gate, &mut driver)
 }

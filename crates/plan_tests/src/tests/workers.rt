@@ -1,14 +1,14 @@
 // Runs with several workers.
 use super::runs::{Named, TurnNotes, ample_sink, holds, is_same, shelf_of, status_of};
 use super::tasks::{BLOCKS, DARK, LAMP, LAMP_PLAN, TOWER, TOWER_PLAN};
+use poll_run::NoDriver;
 use std::alloc::{AllocGlobal, Global};
 use std::process::Abort;
-use std::random::RandomSource;
 use std::sync::Wait;
 use std::thread::Threads;
 
 // A run on these files at a gate, which ends with status 0 and this report.
-fn run_at<H: Threads + Wait + Sync + RandomSource + AllocGlobal + Abort>(
+fn run_at<H: Threads + Wait + Sync + AllocGlobal + Abort>(
     rt: &H,
     alloc: Global,
     words: &str,
@@ -18,14 +18,15 @@ fn run_at<H: Threads + Wait + Sync + RandomSource + AllocGlobal + Abort>(
 ) {
     let mut shelf = shelf_of(rt, alloc, files, &[]);
     let mut sink = ample_sink(rt, alloc);
-    let status = status_of(rt, alloc, words, &mut shelf, &mut sink, gate);
+    let mut driver = NoDriver::new();
+    let status = status_of(rt, alloc, words, &mut shelf, &mut sink, gate, &mut driver);
     holds(rt, status == 0 && is_same(sink.taken(), report), words);
 }
 
 const IN_THE_DARK: [Named<'static>; 2] = [("d", LAMP), ("p", DARK)];
 
 // Whether two horizons of a run are at work at once.
-fn meets<H: Threads + Wait + Sync + RandomSource + AllocGlobal + Abort>(
+fn meets<H: Threads + Wait + Sync + AllocGlobal + Abort>(
     rt: &H,
     alloc: Global,
     words: &str,
@@ -53,7 +54,7 @@ fn one_worker_takes_one_after_another(rt: HostRuntime) {
 }
 
 // How many turns a run on the tower takes.
-fn turns<H: Threads + Wait + Sync + RandomSource + AllocGlobal + Abort>(
+fn turns<H: Threads + Wait + Sync + AllocGlobal + Abort>(
     rt: &H,
     alloc: Global,
     words: &str,

@@ -28,10 +28,9 @@ returns-in-Refuted c =
 pub returns-in-Found : goal.returns-in-Found
 returns-in-Found c =
     let run = c.args.solving.now in
-    let h = c.args.horizon in
     let found : run.state.standing ≡ Found = sym c.standing.ensures.value ∙ c.in-Found.is in
     record {
-      proved = ap Plan c.conflicts.ensures.value ∙ ap (λ (s : Standing). proved_as h s run.state) (sym found);
+      proved = ap Plan c.conflicts.ensures.value ∙ ap (λ (s : Standing). proved_as c.args.horizon s run.state) (sym found);
       certified = λ text e. cc;
       spent = λ conflicts e. cc;
       found = λ conflicts e. (truths_of run.formula run.state, found_model run (c.standing.ensures.moved c.requires.sane) (c.standing.ensures.reached run.granted) found);
@@ -41,12 +40,11 @@ returns-in-Found c =
 pub returns-in-Going : goal.returns-in-Going
 returns-in-Going c =
     let run = c.args.solving.now in
-    let h = c.args.horizon in
     let going : run.state.standing ≡ Going = sym c.standing.ensures.value ∙ c.in-Going.is in
     let used = used_up run (c.standing.ensures.moved c.requires.sane) (c.standing.ensures.reached run.granted) going in
     let n : c.conflicts-in-Going.result ≡ run.state.conflicts = c.conflicts-in-Going.ensures.value in
     record {
-      proved = ap Open n ∙ ap (λ (s : Standing). proved_as h s run.state) (sym going);
+      proved = ap Open n ∙ ap (λ (s : Standing). proved_as c.args.horizon s run.state) (sym going);
       certified = λ text e. cc;
       spent = λ conflicts e. cc;
       found = λ conflicts e. cc;

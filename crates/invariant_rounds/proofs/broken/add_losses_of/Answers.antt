@@ -1,8 +1,9 @@
-use Rattle.std.proofs.Common.{◌≡◌, ◌∙◌, ◌*◌, ◌<◌, ◌==◌, ◌&&◌, ◌||◌, ap, sym, subst, refl, true, false, not, length, Bool, ℕ, List}
+use Rattle.std.proofs.Common.{◌≡◌, ◌∙◌, ◌*◌, ◌<◌, ◌==◌, ◌&&◌, ◌||◌, ap, sym, subst, true, not, length, Bool, ℕ, List}
 use Rattle.std.specs.List.{AllByRecursion, list_all}
 use Rattle.bit_sets.specs.Rows.{row_has, IsPairAcross}
 use Rattle.gt_core.specs.Literal.{opposite}
 use Rattle.gt_core.specs.Task.{Effect}
+use Rattle.gt_core.proofs.Basics.{apart}
 use Rattle.implied_literals.specs.Rows.{clause_in}
 use Rattle.implied_literals.specs.Tested.{EffectFits, AreRowsOf, with_more, has_no_pair, breaks_by}
 use Rattle.invariant_rounds.specs.Harmless.{IsKept}
@@ -15,6 +16,11 @@ use Rattle.invariant_rounds.proofs.Firm.{not_broken, nothing_more}
 use Rattle.implied_literals.proofs.Exact.{pair_test_is}
 use Rattle.invariant_rounds.proofs.PlainEffects.{breaks_the_same}
 use Rattle.invariant_rounds.proofs.broken.add_losses_of.Goals as goal
+
+-- what is known before the action: what its condition tells
+set_is : (none : ℕ → Bool) {given rows : List (List ℕ)} {pre condition : List ℕ} {set : ℕ → Bool} → ((m : ℕ) → set m ≡ with_more given none pre m) → given ≡ rows → pre ≡ condition
+    → set ≡ with_more rows none condition
+set_is none has value is = (λ i m. has m i) ∙ (λ i. with_more (value i) none (is i))
 
 pub add_all_groups-requires-clause-before : goal.add_all_groups-requires-clause-before
 add_all_groups-requires-clause-before c =
@@ -35,22 +41,16 @@ pub returns-then-has_pair-clause-lost : goal.returns-then-has_pair-clause-lost
 returns-then-has_pair-clause-lost c = λ l m.
     let known = c.args.known.now in
     let x = c.args.act.now in
-    let none = row_has known.none in
-    let value = c.as_slice-rows.ensures.value in
-    let set : row_has c.in_ok-set.set ≡ with_more known.rows.items none x.precondition = (λ i m. c.in_ok-set.ensures m i) ∙ (λ i. with_more (value i) none (c.pre.ensures i)) in
+    let set = set_is (row_has known.none) c.in_ok-set.ensures c.as_slice-rows.ensures.value c.pre.ensures in
     let pair = subst (λ (s : ℕ → Bool). IsPairAcross s s true) set c.if-has_pair.ensures in
-    off (clause_in c.args.lost.now.items l m) (clause_in c.args.clauses.now l m) (breaks_by c.args.facts known x l m) (breaks_nothing c.args.facts known x c.requires.rows c.requires.none pair l m)
-  where
-    off : (o a b : Bool) → b ≡ false → o ≡ (o || (a && b))
-    off true a b e = refl
-    off false true b e = sym e
-    off false false b e = refl
+    let breaks : Bool = breaks_by c.args.facts known x l m in
+    nothing_more (clause_in c.args.lost.now.items l m) (clause_in c.args.clauses.now l m) breaks
+    (λ _ _ t. apart breaks t (breaks_nothing c.args.facts known x c.requires.rows c.requires.none pair l m))
 
 pub returns-clause-lost : goal.returns-clause-lost
 returns-clause-lost c = λ l m.
-    let none = row_has c.args.known.now.none in
     let value = c.as_slice-rows.ensures.value in
-    let set : row_has c.in_ok-set.set ≡ with_more c.args.known.now.rows.items none c.args.act.now.precondition = (λ i m. c.in_ok-set.ensures m i) ∙ (λ i. with_more (value i) none (c.pre.ensures i)) in
+    let set = set_is (row_has c.args.known.now.none) c.in_ok-set.ensures value c.pre.ensures in
     let has : group_with c.as_slice.result.now ≡ effect_with c.args.act.now.effects = (λ i. group_with (c.as_slice.ensures.value i)) ∙ (λ i l test. c.in_ok-groups.ensures.same l test i) ∙ (λ i. effect_with (c.effects-effects.ensures i)) in
     c.in_ok-add_all_groups.ensures.lost l m ∙ (λ i. clause_in c.args.lost.now.items l m || (clause_in c.args.clauses.now l m && has i (opposite l) (breaks_under c.args.facts (value i) (has i) (set i) l m)))
 
@@ -61,8 +61,7 @@ returns-then-are_plain-clause-lost c = λ l m.
     let x = c.args.act.now in
     let rows = known.rows.items in
     let none = row_has known.none in
-    let value = c.as_slice-rows.ensures.value in
-    let set : row_has c.in_ok-set.set ≡ with_more rows none x.precondition = (λ i m. c.in_ok-set.ensures m i) ∙ (λ i. with_more (value i) none (c.pre.ensures i)) in
+    let set = set_is none c.in_ok-set.ensures c.as_slice-rows.ensures.value c.pre.ensures in
     let within : (k : ℕ) → row_has c.in_ok-set.set k ≡ true → k < 2 * facts = λ k t. more_within (2 * facts) rows none x.precondition c.requires.rows c.requires.none k (sym (λ i. set i k) ∙ t) in
     let free : has_no_pair facts (with_more rows none x.precondition) ≡ true =
     ap (has_no_pair facts) (sym set) ∙ sym (pair_test_is facts (row_has c.in_ok-set.set) c.has_pair.result within c.has_pair.ensures) ∙ ap not c.if-has_pair.false in
@@ -82,10 +81,9 @@ pub returns-then-harmless-clause-lost : goal.returns-then-harmless-clause-lost
 returns-then-harmless-clause-lost c = λ l m.
     let known = c.args.known.now in
     let x = c.args.act.now in
-    let none = row_has known.none in
-    let value = c.as_slice-rows.ensures.value in
     let clauses = c.args.clauses.now in
-    let set : row_has c.in_ok-set.set ≡ with_more known.rows.items none x.precondition = (λ i m. c.in_ok-set.ensures m i) ∙ (λ i. with_more (value i) none (c.pre.ensures i)) in
+    let none = row_has known.none in
+    let set = set_is none c.in_ok-set.ensures c.as_slice-rows.ensures.value c.pre.ensures in
     let firm = subst (λ (es : List Effect). has_opposite es l ≡ true → IsKept clauses c.as_slice-so_far.result.now (λ k. row_has c.in_ok-set.set k && not (has_opposite es k)) l m) c.effects-effects.ensures (c.in_ok-harmless.ensures c.if-harmless.true l m) in
     let kept = subst (λ (s : ℕ → Bool). has_opposite x.effects l ≡ true → IsKept clauses c.as_slice-so_far.result.now (λ k. s k && not (has_opposite x.effects k)) l m) set firm in
     nothing_more (clause_in c.args.lost.now.items l m) (clause_in clauses l m) (breaks_by c.args.facts known x l m)

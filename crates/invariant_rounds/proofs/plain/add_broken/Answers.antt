@@ -1,19 +1,16 @@
-use Rattle.std.proofs.Common.{◌∙◌, ◌==◌, ◌<◌, ◌*◌, ◌&&◌, ◌||◌, not, ap, sym, subst, Bool, ℕ}
+use Rattle.std.proofs.Common.{◌∙◌, ◌==◌, ◌&&◌, ◌||◌, not, ap, Bool, ℕ}
 use Rattle.bit_sets.specs.Rows.{row_has}
 use Rattle.gt_core.specs.Literal.{opposite}
 use Rattle.gt_core.specs.Task.{Effect}
 use Rattle.implied_literals.specs.Breaks.{is_add}
 use Rattle.implied_literals.specs.Rows.{clause_in}
-use Rattle.implied_literals.specs.Tested.{EffectFits}
-use Rattle.invariant_rounds.proofs.Grouping.{all_read}
+use Rattle.invariant_rounds.proofs.Grouping.{opposite_fits}
 use Rattle.invariant_rounds.proofs.PlainEffects.{broken_more, in_order}
 use Rattle.invariant_rounds.proofs.plain.add_broken.Goals as goal
 
 pub add_loss-requires-clause-clauses : goal.add_loss-requires-clause-clauses
 add_loss-requires-clause-clauses c =
-    subst (λ (n : ℕ). c.opposite.result < n) (sym c.requires.clauses.long)
-    (subst (λ (k : ℕ). k < 2 * c.args.facts) (sym (c.opposite.ensures ∙ ap opposite c.lit.ensures))
-    (all_read (EffectFits (2 * c.args.facts)) c.args.effects.now c.loop-effect.effect-index c.effect-item.result c.requires.effects c.loop-effect-test.true c.effect-item.is).literal)
+    opposite_fits c.args.facts c.args.effects.now c.requires.effects c.loop-effect-test.true c.effect-item.is c.lit.ensures c.opposite.ensures c.requires.clauses.long
 
 pub loop-effect-preserved : goal.loop-effect-preserved
 loop-effect-preserved c =
@@ -34,6 +31,4 @@ loop-effect-preserved c =
 
 pub add_loss-requires-clause-rows : goal.add_loss-requires-clause-rows
 add_loss-requires-clause-rows c =
-    subst (λ (n : ℕ). c.opposite.result < n) (sym (c.loop-effect.invariant.long ∙ c.requires.rows))
-    (subst (λ (k : ℕ). k < 2 * c.args.facts) (sym (c.opposite.ensures ∙ ap opposite c.lit.ensures))
-    (all_read (EffectFits (2 * c.args.facts)) c.args.effects.now c.loop-effect.effect-index c.effect-item.result c.requires.effects c.loop-effect-test.true c.effect-item.is).literal)
+    opposite_fits c.args.facts c.args.effects.now c.requires.effects c.loop-effect-test.true c.effect-item.is c.lit.ensures c.opposite.ensures (c.loop-effect.invariant.long ∙ c.requires.rows)

@@ -14,7 +14,7 @@ use Rattle.invariant_rounds.proofs.round.all_losses.Goals as goal
 pub collect-requires-clause-ready : goal.collect-requires-clause-ready
 collect-requires-clause-ready g c κs within =
     let ends = c.into_par_iter.ensures in
-    let n = length c.args.todo.now in
+    let n = length c.args.round.now.todo.now in
     let ceil = div_ceil_times n 2048 (omega arith) in
     let count = c.div_ceil.result in
     let inside = nat_range-All (λ p. 2048 * p < n) 0 count (λ p low high. let e = c.div_ceil.ensures in omega (arith, ceil, e, high)) in
@@ -22,11 +22,12 @@ collect-requires-clause-ready g c κs within =
 
 pub returns : goal.returns
 returns g c =
+    let round = c.args.round.now in
     let ends = c.into_par_iter.ensures in
     let count = c.div_ceil.result in
     let size : count - 0 ≡ count = omega arith in
     let said = rw (c.map.ensures.base, c.map.ensures.f, c.with_min_len.ensures.base) at c.in_ok-collect.ensures in
-    let P : ℕ → Vec (List ℕ) Global → Type 0 = λ p t. AreLosses c.args.facts c.args.known.now c.args.clauses.now c.args.acts.now c.args.todo.now (2048 * p) (2048 * p + 2048) t.items in
+    let P : ℕ → Vec (List ℕ) Global → Type 0 = λ p t. AreLosses round.facts round.known.now round.clauses.now round.acts.now round.todo.now (2048 * p) (2048 * p + 2048) t.items in
     let each = AllZip-weaken _ (λ a (r : Result (Vec (List ℕ) Global) AllocError). IfOk r (P a)) (λ a r h. search rules) said.1.0 said.0 said.1.2 in
     let places = said.1.1 ∙ (λ i. nat_range (ends.0 i) (ends.1 i)) ∙ ap (range_with_len 0) size in
     let here = subst (λ (l : List ℕ). AllZip (λ a (r : Result (Vec (List ℕ) Global) AllocError). IfOk r (P a)) l said.0) places each in
@@ -34,6 +35,6 @@ returns g c =
     (λ v z.
     let long : length v.items ≡ count = AllZip-long P _ v.items z ∙ length-range_with_len 0 count in
     record {
-      enough = (let ceil = div_ceil_times (length c.args.todo.now) 2048 (omega arith) in let e = c.div_ceil.ensures in omega (arith, ceil, e, long));
+      enough = (let ceil = div_ceil_times (length round.todo.now) 2048 (omega arith) in let e = c.div_ceil.ensures in omega (arith, ceil, e, long));
       pieces = subst (λ (n : ℕ). AllZip P (range_with_len 0 n) v.items) (sym long) z;
     })

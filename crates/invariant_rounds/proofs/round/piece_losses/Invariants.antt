@@ -3,4 +3,4 @@ use Rattle.invariant_rounds.specs.Losses.{AreLosses}
 use Rattle.invariant_rounds.proofs.round.piece_losses.Given as goal
 
 abbrev pub invariant-loop-i : goal.invariant-loop-i
-invariant-loop-i l = AreLosses l.facts l.known l.clauses l.acts l.todo (2048 * l.piece) l.i l.lost.items
+invariant-loop-i l = AreLosses l.round.facts l.round.known.now l.round.clauses.now l.round.acts.now l.round.todo.now (2048 * l.piece) l.i l.lost.items

@@ -1,8 +1,8 @@
-use Rattle.std.proofs.Common.{refl, subst, sym, ap, Ok, ◌∙◌}
+use Rattle.std.proofs.Common.{refl, subst, ap, Ok}
 use Rattle.gt_core.specs.Task.{Task}
 use Rattle.plan_tasks.specs.Stepping.{places_by, is_plan_by}
 use Rattle.plan_tasks.specs.Tasks.{StopsTask}
-use Rattle.judge_top.specs.Answers.{OnceReady, not_ready, ready, AnswersJudge, too_large, unread, judged, IsUnread, OfKnown, IsFormula, TellsTooMany}
+use Rattle.judge_top.specs.Answers.{not_ready, ready, too_large, unread, judged, IsUnread, OfKnown, IsFormula, TellsTooMany}
 use Rattle.judge_top.proofs.Handed.{handed}
 use Rattle.judge_top.proofs.Formulas.{has_none, is_verdict}
 use Rattle.judge_top.proofs.answer.answer_judge.Goals as goal

@@ -1,8 +1,7 @@
-use Rattle.std.proofs.Common.{refl, subst}
-use Rattle.gt_core.specs.Task.{Task}
+use Rattle.std.proofs.Common.{refl}
 use Rattle.plan_tasks.specs.Stepping.{places_by}
 use Rattle.plan_tasks.specs.Tasks.{StopsTask}
-use Rattle.judge_top.specs.Answers.{OnceReady, not_ready, ready, AnswersModel, too_large, model, OfKnown, IsTold, TellsTooMany}
+use Rattle.judge_top.specs.Answers.{not_ready, ready, too_large, model, TellsTooMany}
 use Rattle.judge_top.proofs.Handed.{handed}
 use Rattle.judge_top.proofs.Formulas.{calls_below}
 use Rattle.judge_top.proofs.answer.answer_model.Goals as goal

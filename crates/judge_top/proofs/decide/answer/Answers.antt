@@ -1,4 +1,4 @@
-use Rattle.std.proofs.Common.{◌≡◌, ◌∙◌, [], ap, refl, inl, inr}
+use Rattle.std.proofs.Common.{◌∙◌, ap, refl, inl, inr}
 use Rattle.pl_io.specs.Tape.{Given}
 use Rattle.judge_top.specs.Answers.{tape_run}
 use Rattle.judge_top.proofs.Deciding.{judged_before}

@@ -1,4 +1,4 @@
-use Rattle.std.proofs.Common.{◌≡◌, ◌∙◌, ℕ, sym, ap}
+use Rattle.std.proofs.Common.{◌∙◌, ℕ, sym, ap}
 use Rattle.clause_base.specs.Formula.{Cnf}
 use Rattle.model_text.specs.Text.{Values, model_of}
 use Rattle.model_text.proofs.Reading.{values_are}

@@ -1,4 +1,4 @@
-use Rattle.std.proofs.Common.{ℕ, sym, ap, ◌∙◌, ◌≡◌, subst}
+use Rattle.std.proofs.Common.{sym, ap, ◌∙◌, subst}
 use Rattle.clause_base.specs.Formula.{Cnf, Satisfies, assignment_of}
 use Rattle.model_text.specs.FirstFalse.{IsFirstFalse}
 use Rattle.model_text.specs.Text.{model_of}

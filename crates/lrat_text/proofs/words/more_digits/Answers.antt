@@ -1,4 +1,4 @@
-use Rattle.std.proofs.Common.{◌∙◌, sym, ap, refl, arith}
+use Rattle.std.proofs.Common.{◌∙◌, sym, ap}
 use Rattle.lrat_text.specs.Words.{value_with}
 use Rattle.lrat_text.specs.Cut.{digits_front}
 use Rattle.lrat_text.proofs.WordsLaws.{digits_more}

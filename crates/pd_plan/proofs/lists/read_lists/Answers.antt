@@ -1,4 +1,5 @@
 use Rattle.std.proofs.lemmas.Result.{err_from_is_err_and}
+use Rattle.pd_plan.specs.Answers.{fault_of}
 use Rattle.pd_plan.specs.Reader.{state_of}
 use Rattle.pd_plan.proofs.Steps.{fails_there, reached_next}
 use Rattle.pd_plan.proofs.lists.read_lists.Goals as goal
@@ -6,7 +7,7 @@ use Rattle.pd_plan.proofs.lists.read_lists.Goals as goal
 pub returns-in_err-step : goal.returns-in_err-step
 returns-in_err-step c =
     let p = err_from_is_err_and c.from_residual.result c.from_residual.ensures.1 in
-    let fails = fails_there c.args.bytes.now c.loop-at.at (state_of c.loop-at.reader) c.loop-at.invariant c.in_err-step.field-0.0 c.loop-at-test.true c.in_err-step.ensures in
+    let fails = fails_there c.args.bytes.now c.loop-at.at (state_of c.loop-at.reader) c.loop-at.invariant (fault_of c.in_err-step.field-0.0) c.loop-at-test.true c.in_err-step.ensures in
     rw (p.1, p.2) fails
 
 pub loop-at-preserved : goal.loop-at-preserved

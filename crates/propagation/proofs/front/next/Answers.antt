@@ -1,4 +1,4 @@
-use Rattle.std.proofs.Common.{arith, ℕ, sym, subst}
+use Rattle.std.proofs.Common.{arith, ℕ, ◌&&◌, Bool, ap, sym, subst}
 use Rattle.std.proofs.lemmas.List.{get_or_read}
 use Rattle.clause_base.specs.Clause.{has_literal}
 use Rattle.bit_sets.specs.Layered.{words_have}
@@ -8,6 +8,7 @@ use Rattle.propagation.specs.Tables.{pending_in}
 use Rattle.propagation.proofs.Asks.{cleaned_complete, cleaned_least, cleaned_fewer}
 use Rattle.propagation.proofs.AsksKept.{asks_fewer}
 use Rattle.propagation.proofs.Fronts.{first_some, first_none}
+use Rattle.propagation.proofs.Knowns.{stay_complete, stay_same}
 use Rattle.propagation.proofs.front.next.Goals as goal
 
 pub index-ask-requires : goal.index-ask-requires
@@ -32,18 +33,30 @@ taking-preserved c =
     record {
       asks = asks_fewer c.args.tables.now.store c.args.assignment.now.trail c.taking.pending c.remove_least.new.self i.asks
           (cleaned_fewer was is c.in-Some.number has) (omega (arith, c.remove_least.ensures.room));
-      complete = cleaned_complete (pending_in c.args.tables.now c.args.assignment.now.trail) was is c.in-Some.number c.in-None-answer.ensures i.complete has;
+      stay = cleaned_complete (λ k. pending_in c.args.tables.now c.args.assignment.now.trail k && words_have c.args.pending.now.numbers k) was is
+          c.in-Some.number (ap (λ (b : Bool). b && words_have c.args.pending.now.numbers c.in-Some.number) c.in-None-answer.ensures) i.stay has;
       none = cleaned_least was is c.in-Some.number c.in-Some.ensures has;
       low = omega arith;
     }
 
+pub taking-init : goal.taking-init
+taking-init c = record {
+  asks = c.requires.asks;
+  stay = stay_same (pending_in c.args.tables.now c.args.assignment.now.trail) c.args.pending.now;
+  none = λ k h. absurd (omega (arith, h));
+  low = omega arith;
+}
+
 pub returns-in-Some-answer-clause-first : goal.returns-in-Some-answer-clause-first
-returns-in-Some-answer-clause-first c =
+returns-in-Some-answer-clause-first c complete =
     let t = c.args.tables.now in
-    let i = c.taking.invariant in
-    first_some t.store t.kept.items c.args.assignment.now.trail c.taking.pending c.in-Some.number c.in-Some-answer.event c.requires.tables.kept i.complete c.in-Some.ensures c.in-Some-answer.ensures
+    let trail = c.args.assignment.now.trail in
+    first_some t.store t.kept.items trail c.taking.pending c.in-Some.number c.in-Some-answer.event c.requires.tables.kept
+    (stay_complete (pending_in t trail) c.args.pending.now c.taking.pending complete c.taking.invariant.stay) c.in-Some.ensures c.in-Some-answer.ensures
 
 pub returns-in-None-clause-first : goal.returns-in-None-clause-first
-returns-in-None-clause-first c =
+returns-in-None-clause-first c complete =
     let t = c.args.tables.now in
-    first_none t.store t.kept.items c.args.assignment.now.trail c.taking.pending c.taking.invariant.complete c.in-None.ensures
+    let trail = c.args.assignment.now.trail in
+    first_none t.store t.kept.items trail c.taking.pending
+    (stay_complete (pending_in t trail) c.args.pending.now c.taking.pending complete c.taking.invariant.stay) c.in-None.ensures

@@ -1,4 +1,4 @@
-use Rattle.std.proofs.Common.{arith, ◌≡◌, ◌∙◌, sym, ap, true, length, ℕ, List}
+use Rattle.std.proofs.Common.{arith, ◌≡◌, ◌∙◌, sym, ap, subst, true, length, ℕ, List}
 use Rattle.clause_base.specs.Clause.{has_literal}
 use Rattle.cdcl_rules.specs.Pending.{is_pending}
 use Rattle.cdcl_rules.specs.State.{clause_at}
@@ -10,11 +10,17 @@ use Rattle.propagation.proofs.AsksKept.{asks_cleared}
 use Rattle.propagation.proofs.Filters.{pending_at}
 use Rattle.propagation.proofs.front.rescan.Goals as goal
 
+pub scan_listed-requires-clause-asks : goal.scan_listed-requires-clause-asks
+scan_listed-requires-clause-asks c = asks_cleared c.args.tables.now.store c.args.assignment.now.trail c.clear.new.self c.clear.ensures.none
+    (omega (arith, c.clear.ensures.room, c.requires.room)) (omega (arith, ap (λ (xs : List ℕ). length xs) c.clear.ensures.asks, c.requires.long))
+
 pub loop-number-init : goal.loop-number-init
 loop-number-init c = record {
-  asks = asks_cleared c.args.tables.now.store c.args.assignment.now.trail c.clear.new.self c.clear.ensures.none
-      (omega (arith, c.clear.ensures.room, c.requires.room)) (omega (arith, ap (λ (xs : List ℕ). length xs) c.clear.ensures.asks, c.requires.long));
-  complete = λ k h. absurd (omega (arith, h));
+  asks = c.scan_listed.ensures.asks;
+  complete = λ k h p.
+      let i = c.requires.listed k p h in
+      subst (λ (n : ℕ). words_have c.scan_listed.new.pending.numbers n ≡ true) i.is
+      (c.scan_listed.ensures.own i.place i.inside (ap (pending_in c.args.tables.now c.args.assignment.now.trail) i.is ∙ p));
 }
 
 pub loop-number-preserved : goal.loop-number-preserved

@@ -22,14 +22,10 @@ at_list store falsified e h = subst (λ (ps : List Pair). EachPair (IsPairOf sto
 pub mark_list-requires-clause-exact : goal.mark_list-requires-clause-exact
 mark_list-requires-clause-exact c = at_list c.args.store.now c.args.falsified c.told.ensures (parts (goal.at.mark_list-requires-clause-exact c).After-lists-lists).first
 
-pub mark_repeated-requires-clause-last : goal.mark_repeated-requires-clause-last
-mark_repeated-requires-clause-last c = (parts (goal.at.mark_repeated-requires-clause-last c).After-lists-lists).second
-
-pub mark_repeated-requires-clause-next : goal.mark_repeated-requires-clause-next
-mark_repeated-requires-clause-next c = (parts (goal.at.mark_repeated-requires-clause-next c).After-lists-lists).third
-
-pub mark_repeated-requires-clause-time : goal.mark_repeated-requires-clause-time
-mark_repeated-requires-clause-time c = (parts (goal.at.mark_repeated-requires-clause-time c).After-lists-lists).fourth
+pub mark_repeated-requires-clause-listed : goal.mark_repeated-requires-clause-listed
+mark_repeated-requires-clause-listed c =
+    let p = parts (goal.at.mark_repeated-requires-clause-listed c).After-lists-lists in
+    record { last = p.second; next = p.third; time = p.fourth }
 
 pub mark_all-requires-clause-exact : goal.mark_all-requires-clause-exact
 mark_all-requires-clause-exact c = at_list c.args.store.now c.args.falsified c.in-Some.ensures (parts (goal.at.mark_all-requires-clause-exact c).After-lists-lists).fifth
@@ -44,7 +40,7 @@ marked c set grows after =
     let m = c.mark_repeated.ensures in
     let told : EachPair P ls.told = subst (EachPair P) c.told.ensures (λ i h f. grows _ (m.grows _ (c.mark_list.ensures.in_set i h f))) in
     subst (EachPair P) (sym c.lists-lists.ensures) (each_of_five P ls.told ls.last ls.next ls.time ls.after told
-    (λ i h f. grows _ (m.last i h f)) (λ i h f. grows _ (m.next i h f)) (λ i h f. grows _ (m.time i h f)) after)
+    (λ i h f. grows _ (m.in_set.last i h f)) (λ i h f. grows _ (m.in_set.next i h f)) (λ i h f. grows _ (m.in_set.time i h f)) after)
 
 grown : (c : After-after) → Grows (words_have c.args.pending.now.numbers) (words_have c.mark_repeated.new.pending.numbers)
 grown c k h = c.mark_repeated.ensures.grows k (c.mark_list.ensures.grows k h)

@@ -12,7 +12,7 @@ pub of_step-requires : goal.of_step-requires
 of_step-requires c = sym c.in-Step.ensures.is
 
 pub mark_list-requires-clause-exact : goal.mark_list-requires-clause-exact
-mark_list-requires-clause-exact c = subst (ArePairsOf c.args.store.now c.args.falsified) (sym c.of_step.ensures) c.requires.next
+mark_list-requires-clause-exact c = subst (ArePairsOf c.args.store.now c.args.falsified) (sym c.of_step.ensures) c.requires.listed.next
 
 pub mark_list-requires-clause-fit : goal.mark_list-requires-clause-fit
 mark_list-requires-clause-fit c = c.requires.fit
@@ -23,24 +23,12 @@ mark_fact-requires-clause-origin c = sym c.in-Time.ensures.is
 pub mark_fact-requires-clause-fit : goal.mark_fact-requires-clause-fit
 mark_fact-requires-clause-fit c = c.requires.fit
 
-pub returns-in-Step-clause-last : goal.returns-in-Step-clause-last
-returns-in-Step-clause-last c = none_marked c.args.assignment.now.trail c.args.lists.now.last c.mark_list.new.pending c.in-Step.ensures.empty.0
-
-pub returns-in-Step-clause-next : goal.returns-in-Step-clause-next
-returns-in-Step-clause-next c =
-    subst (λ (ps : List Pair). AreMarked c.args.assignment.now.trail ps c.mark_list.new.pending) c.of_step.ensures c.mark_list.ensures.in_set
-
-pub returns-in-Step-clause-time : goal.returns-in-Step-clause-time
-returns-in-Step-clause-time c = none_marked c.args.assignment.now.trail c.args.lists.now.time c.mark_list.new.pending c.in-Step.ensures.empty.1
-
-pub returns-in-Other-clause-last : goal.returns-in-Other-clause-last
-returns-in-Other-clause-last c = none_marked c.args.assignment.now.trail c.args.lists.now.last c.args.pending.now c.in-Other.ensures.empty.0
-
-pub returns-in-Other-clause-next : goal.returns-in-Other-clause-next
-returns-in-Other-clause-next c = none_marked c.args.assignment.now.trail c.args.lists.now.next c.args.pending.now c.in-Other.ensures.empty.1
-
-pub returns-in-Other-clause-time : goal.returns-in-Other-clause-time
-returns-in-Other-clause-time c = none_marked c.args.assignment.now.trail c.args.lists.now.time c.args.pending.now c.in-Other.ensures.empty.2
+pub returns-in-Step-clause-in_set : goal.returns-in-Step-clause-in_set
+returns-in-Step-clause-in_set c = record {
+  last = none_marked c.args.assignment.now.trail c.args.lists.now.last c.mark_list.new.pending c.in-Step.ensures.empty.0;
+  next = subst (λ (ps : List Pair). AreMarked c.args.assignment.now.trail ps c.mark_list.new.pending) c.of_step.ensures c.mark_list.ensures.in_set;
+  time = none_marked c.args.assignment.now.trail c.args.lists.now.time c.mark_list.new.pending c.in-Step.ensures.empty.1;
+}
 
 pub returns-in-Step-clause-grows : goal.returns-in-Step-clause-grows
 returns-in-Step-clause-grows c = c.mark_list.ensures.grows
@@ -48,17 +36,15 @@ returns-in-Step-clause-grows c = c.mark_list.ensures.grows
 pub returns-in-Step-clause-asks : goal.returns-in-Step-clause-asks
 returns-in-Step-clause-asks c = c.mark_list.ensures.asks
 
-pub returns-in-Time-clause-last : goal.returns-in-Time-clause-last
-returns-in-Time-clause-last c = c.mark_fact.ensures.last
+pub returns-in-Other-clause-in_set : goal.returns-in-Other-clause-in_set
+returns-in-Other-clause-in_set c = record {
+  last = none_marked c.args.assignment.now.trail c.args.lists.now.last c.args.pending.now c.in-Other.ensures.empty.0;
+  next = none_marked c.args.assignment.now.trail c.args.lists.now.next c.args.pending.now c.in-Other.ensures.empty.1;
+  time = none_marked c.args.assignment.now.trail c.args.lists.now.time c.args.pending.now c.in-Other.ensures.empty.2;
+}
 
-pub returns-in-Time-clause-next : goal.returns-in-Time-clause-next
-returns-in-Time-clause-next c = c.mark_fact.ensures.next
-
-pub returns-in-Time-clause-time : goal.returns-in-Time-clause-time
-returns-in-Time-clause-time c = c.mark_fact.ensures.time
+pub returns-in-Time-clause-in_set : goal.returns-in-Time-clause-in_set
+returns-in-Time-clause-in_set c = c.mark_fact.ensures.in_set
 
 pub returns-in-Time-clause-grows : goal.returns-in-Time-clause-grows
 returns-in-Time-clause-grows c = c.mark_fact.ensures.grows
-
-pub returns-in-Time-clause-asks : goal.returns-in-Time-clause-asks
-returns-in-Time-clause-asks c = c.mark_fact.ensures.asks

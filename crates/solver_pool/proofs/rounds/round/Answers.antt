@@ -1,7 +1,7 @@
 use Rattle.std.proofs.Common.{rules, ◌≡◌, length, false, arith, refl}
 use Rattle.solver_pool.specs.declared.worker.Worker.{Worker}
 use Rattle.solver_pool.specs.Rounds.{IsBeginning, AreServed}
-use Rattle.solver_pool.proofs.Rounded.{rounded, started_of, owner_of, workers_of}
+use Rattle.solver_pool.proofs.Rounded.{rounded, alone_again, started_of, owner_of, workers_of}
 use Rattle.solver_pool.proofs.Rising.{given_back, in_order}
 use Rattle.solver_pool.proofs.rounds.round.Goals as goal
 
@@ -28,6 +28,13 @@ take_in_all-requires-clause-workers g c =
     let o : Worker g.row.R.Denot g.R.Resume = record { pass = c.in_ok-ring.field-0.owner; done = c.new.result; failed = false } in
     let begins : IsBeginning g.R.Resume c.args.jobs o = (c.in_ok-ring.ensures.opened, c.new.ensures.items, refl) in
     workers_of g.R.Resume c.in_ok-ring.field-0.ring c.args.jobs o _ _ _ begins c.in_ok-started.ensures.started same c.in-Ok.ensures.each
+
+pub finish-owner-requires-clause-alone : goal.finish-owner-requires-clause-alone
+finish-owner-requires-clause-alone g c κs within =
+    let same : length c.in-Ok.back.items ≡ length c.in_ok-started.started.items = search rules in
+    let o : Worker g.row.R.Denot g.R.Resume = record { pass = c.in_ok-ring.field-0.owner; done = c.new.result; failed = false } in
+    let begins : IsBeginning g.R.Resume c.args.jobs o = (c.in_ok-ring.ensures.opened, c.new.ensures.items, refl) in
+    alone_again g.R.Resume c.in_ok-ring.field-0.ring c.args.jobs o _ _ _ _ begins c.in_ok-started.ensures.started same c.in-Ok.ensures.each c.take_in_all.ensures.work
 
 pub returns : goal.returns
 returns g c =

@@ -15,12 +15,12 @@ returns-in-Ok-clause-work g c out book begun was its =
     let k = c.args.owner.now in
     let w = c.args.worker in
     let items : c.append.new.self.items ≡ k.done.items ++ w.done.items = search rules in
-    takes_in g.R.Resume out book begun k w _ c.take_in.ensures.noted (λ e. let n = neither k.failed w.failed e in (n.0, n.1, items))
+    takes_in g.R.Resume out book begun k w _ c.take_back.ensures.noted (λ e. let n = neither k.failed w.failed e in (n.0, n.1, items))
     (subst (λ (l : List (JobView g.row.R.Denot)). All (IsHanded g.R.Resume book) l) (sym items) (All-append (IsHanded g.R.Resume book) _ _ was.handed its.handed)) was its
 
 pub returns-clause-work : goal.returns-clause-work
 returns-clause-work g c out book begun was its =
     let k = c.args.owner.now in
     let items : c.append.new.self.items ≡ k.done.items = search rules in
-    takes_in g.R.Resume out book begun k c.args.worker _ c.take_in.ensures.noted (λ e. absurd (true≢false e))
+    takes_in g.R.Resume out book begun k c.args.worker _ c.take_back.ensures.noted (λ e. absurd (true≢false e))
     (subst (λ (l : List (JobView g.row.R.Denot)). All (IsHanded g.R.Resume book) l) (sym items) was.handed) was its

@@ -1,14 +1,18 @@
-use Rattle.std.proofs.Common.{◌<◌, ◌/◌, [], ℕ, ap, subst, sym}
+use Rattle.std.proofs.Common.{[], ap, subst, sym, ◌∙◌}
 use Rattle.clause_base.specs.Clause.{IsClause}
-use Rattle.cdcl_rules.specs.declared.event.Event.TheVariants.{Conflict, Force, Decide, Finish}
+use Rattle.cdcl_rules.specs.declared.event.Event.{Event}
+use Rattle.cdcl_rules.specs.declared.event.Event.TheVariants.{Conflict, Finish}
+use Rattle.cdcl_rules.specs.State.{State}
 use Rattle.cdcl_rules.specs.Learn.{learned, Learned}
 use Rattle.cdcl_rules.specs.Run.{with_learned, after_conflict}
 use Rattle.cdcl_laws.specs.Sound.{IsSound}
 use Rattle.cdcl_rules.specs.Trail.{AllFalse}
 use Rattle.cdcl_core.specs.Search.{SearchView, IsNextEvent}
-use Rattle.cdcl_core.proofs.Keeps.{learned_same, learned_is_clause, learned_is_false, undropped_sound, next_sound, next_open}
+use Rattle.cdcl_core.proofs.Keeps.{learned_same, learned_is_clause, learned_is_false, undropped_sound, next_sound}
+use Rattle.cdcl_core.proofs.Entries.{IsEntry, MayAssign, may_assign}
 use Rattle.cdcl_core.proofs.Logs.{goes_same, goes_err}
 use Rattle.cdcl_core.proofs.search.Search.apply.Goals as goal
+use Rattle.cdcl_core.proofs.search.Search.apply.Goals.{After-assign-arg-1, in-Force, in-Decide}
 
 pub enter-requires-clause-clause : goal.enter-requires-clause-clause
 enter-requires-clause-clause c =
@@ -45,41 +49,30 @@ enter-requires-clause-sound c =
     let here = subst (λ (d : Learned). IsSound v.formula (with_learned v.state d)) e law in
     subst (λ (w : SearchView). IsSound w.formula (with_learned w.state (record { clause = c.in_ok-learned-in-Conflict.learned.lits; hints = c.in_ok-learned-in-Conflict.learned.hints }))) (sym c.in_ok-learned-in-Conflict.ensures.ok) here
 
-pub assign-requires-clause-below : goal.assign-requires-clause-below
-assign-requires-clause-below c =
+-- the entry of an event that makes a literal true
+entry : (c : After-assign-arg-1) → MayAssign c.args.self.now.formula c.args.self.now.state c.args.event c.match-event.entry
+entry c =
     let v = c.args.self.now in
-    let next = subst (IsNextEvent v.formula v.state) c.in-Force.is c.requires.next in
-    subst (λ (n : ℕ). c.in-Force.literal / 2 < n) c.requires.sound.many (next_open v.formula v.state (Force c.in-Force.literal c.in-Force.clause) c.requires.sound next).0
+    let a = c.match-event.entry in
+    let may : IsEntry c.args.event a → MayAssign v.formula v.state c.args.event a = may_assign v.formula v.state c.args.event a c.requires.sound c.requires.going c.requires.next in
+    elim c.match-event.branch [
+      | in-Force w ↦ may (subst (λ (x : Event). IsEntry x a) (sym w.in-Force.is) w.entry-is)
+      | in-Decide w ↦ may (subst (λ (x : Event). IsEntry x a) (sym w.in-Decide.is) w.entry-is)
+    ]
+
+pub assign-requires-clause-below : goal.assign-requires-clause-below
+assign-requires-clause-below c = (entry (goal.at.assign-requires-clause-below c).After-assign-arg-1).below
 
 pub assign-requires-clause-opened : goal.assign-requires-clause-opened
-assign-requires-clause-opened c =
-    let v = c.args.self.now in
-    let next = subst (IsNextEvent v.formula v.state) c.in-Force.is c.requires.next in
-    (next_open v.formula v.state (Force c.in-Force.literal c.in-Force.clause) c.requires.sound next).1
+assign-requires-clause-opened c = (entry (goal.at.assign-requires-clause-opened c).After-assign-arg-1).opened
 
 pub assign-requires-clause-sound : goal.assign-requires-clause-sound
-assign-requires-clause-sound c =
-    let v = c.args.self.now in
-    let next = subst (IsNextEvent v.formula v.state) c.in-Force.is c.requires.next in
-    next_sound v.formula v.state (Force c.in-Force.literal c.in-Force.clause) c.requires.sound c.requires.going next
+assign-requires-clause-sound c = (entry (goal.at.assign-requires-clause-sound c).After-assign-arg-1).sound
 
-pub assign-requires-in-Decide-clause-below : goal.assign-requires-in-Decide-clause-below
-assign-requires-in-Decide-clause-below c =
+pub returns-clause-ok : goal.returns-clause-ok
+returns-clause-ok c =
     let v = c.args.self.now in
-    let next = subst (IsNextEvent v.formula v.state) c.in-Decide.is c.requires.next in
-    subst (λ (n : ℕ). c.in-Decide.literal / 2 < n) c.requires.sound.many (next_open v.formula v.state (Decide c.in-Decide.literal) c.requires.sound next).0
-
-pub assign-requires-in-Decide-clause-opened : goal.assign-requires-in-Decide-clause-opened
-assign-requires-in-Decide-clause-opened c =
-    let v = c.args.self.now in
-    let next = subst (IsNextEvent v.formula v.state) c.in-Decide.is c.requires.next in
-    (next_open v.formula v.state (Decide c.in-Decide.literal) c.requires.sound next).1
-
-pub assign-requires-in-Decide-clause-sound : goal.assign-requires-in-Decide-clause-sound
-assign-requires-in-Decide-clause-sound c =
-    let v = c.args.self.now in
-    let next = subst (IsNextEvent v.formula v.state) c.in-Decide.is c.requires.next in
-    next_sound v.formula v.state (Decide c.in-Decide.literal) c.requires.sound c.requires.going next
+    c.assign.ensures ∙ ap (λ (s : State). let x : SearchView = record v { state = s } in x) (sym (entry (goal.at.returns-clause-ok c).After-assign-arg-1).applied)
 
 pub finish-requires-clause-sound : goal.finish-requires-clause-sound
 finish-requires-clause-sound c =

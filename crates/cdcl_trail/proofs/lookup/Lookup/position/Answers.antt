@@ -15,17 +15,13 @@ bounds-self-inside-variable c =
     omega (arith, b, size, half_opposite c.args.lit, c.variable.ensures.value)
 
 pub returns-clause-within : goal.returns-clause-within
-returns-clause-within c = let t = c.self.inside in
-    (found_view t.variables c.variable.result c.args.lit t.entries.now t.positions.now t.start c.args.self.now c.self.invariant c.self.view_is c.requires c.variable.ensures.value).1
+returns-clause-within c = (found_view _ _ c.args.lit _ _ _ _ c.self.invariant c.self.view_is c.requires c.variable.ensures.value).1
 
 pub returns-clause-place : goal.returns-clause-place
-returns-clause-place c = let t = c.self.inside in
-    (found_view t.variables c.variable.result c.args.lit t.entries.now t.positions.now t.start c.args.self.now c.self.invariant c.self.view_is c.requires c.variable.ensures.value).2
+returns-clause-place c = (found_view _ _ c.args.lit _ _ _ _ c.self.invariant c.self.view_is c.requires c.variable.ensures.value).2
 
 pub returns-clause-level : goal.returns-clause-level
-returns-clause-level c = let t = c.self.inside in
-    (found_view t.variables c.variable.result c.args.lit t.entries.now t.positions.now t.start c.args.self.now c.self.invariant c.self.view_is c.requires c.variable.ensures.value).3
+returns-clause-level c = (found_view _ _ c.args.lit _ _ _ _ c.self.invariant c.self.view_is c.requires c.variable.ensures.value).3
 
 pub returns-clause-below : goal.returns-clause-below
-returns-clause-below c = let t = c.self.inside in
-    (found_view t.variables c.variable.result c.args.lit t.entries.now t.positions.now t.start c.args.self.now c.self.invariant c.self.view_is c.requires c.variable.ensures.value).0
+returns-clause-below c = (found_view _ _ c.args.lit _ _ _ _ c.self.invariant c.self.view_is c.requires c.variable.ensures.value).0

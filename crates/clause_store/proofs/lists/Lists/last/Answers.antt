@@ -1,21 +1,13 @@
-use Rattle.std.proofs.Common.{subst, ap, ◌∙◌}
-use Rattle.clause_store.specs.Origin.{IsOrigin, ListsView}
-use Rattle.clause_store.proofs.Origins.{fact_in, last_is, time_in}
+use Rattle.std.proofs.Common.{ap, ◌∙◌}
+use Rattle.clause_store.specs.Origin.{ListsView}
+use Rattle.clause_store.proofs.Origins.{told_origin, fact_in, last_is, time_in}
 use Rattle.clause_store.proofs.lists.Lists.last.Goals as goal
 
 pub last_of-requires-clause-time : goal.last_of-requires-clause-time
-last_of-requires-clause-time c =
-    let w = c.self.inside in
-    time_in w.shape.now w.code c.args.time c.args.fact (subst (IsOrigin w.shape.now w.code) (ap (λ (v : ListsView). v.origin) c.self.view_is ∙ c.requires) c.self.invariant.2)
+last_of-requires-clause-time c = let w = c.self.inside in time_in w.shape.now w.code c.args.time c.args.fact (told_origin w.shape.now w.code c.self.view_is c.requires c.self.invariant.2)
 
 pub last_of-requires-clause-fact : goal.last_of-requires-clause-fact
-last_of-requires-clause-fact c =
-    let w = c.self.inside in
-    fact_in w.shape.now w.code c.args.time c.args.fact (subst (IsOrigin w.shape.now w.code) (ap (λ (v : ListsView). v.origin) c.self.view_is ∙ c.requires) c.self.invariant.2)
+last_of-requires-clause-fact c = let w = c.self.inside in fact_in w.shape.now w.code c.args.time c.args.fact (told_origin w.shape.now w.code c.self.view_is c.requires c.self.invariant.2)
 
 pub returns : goal.returns
-returns c =
-    let w = c.self.inside in
-    c.last_of.ensures
-    ∙ last_is w.shape.now w.code w.step.now c.args.time c.args.fact (subst (IsOrigin w.shape.now w.code) (ap (λ (v : ListsView). v.origin) c.self.view_is ∙ c.requires) c.self.invariant.2)
-    ∙ ap (λ (v : ListsView). v.last) c.self.view_is
+returns c = let w = c.self.inside in c.last_of.ensures ∙ last_is w.shape.now w.code w.step.now c.args.time c.args.fact (told_origin w.shape.now w.code c.self.view_is c.requires c.self.invariant.2) ∙ ap (λ (v : ListsView). v.last) c.self.view_is

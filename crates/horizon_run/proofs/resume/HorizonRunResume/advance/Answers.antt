@@ -1,5 +1,5 @@
-use Rattle.horizon_run.proofs.Runs.{resumes}
+use Rattle.horizon_run.proofs.Runs.{resumes_on}
 use Rattle.horizon_run.proofs.resume.HorizonRunResume.advance.Goals as goal
 
-pub returns-in-Ok-clause-moved : goal.returns-in-Ok-clause-moved
-returns-in-Ok-clause-moved c k = resumes c.args.self.now c.go_on.new.self k c.args.conflicts c.go_on.ensures.adds_up c.in-Ok.ensures.moved c.in-Ok.ensures.after
+pub returns-clause-moved : goal.returns-clause-moved
+returns-clause-moved c = resumes_on c.args.self.now c.go_on.new.self c.args.conflicts c.go_on.result c.go_on.ensures.adds_up c.go_on.ensures.moved c.go_on.ensures.after

@@ -4,8 +4,5 @@ use Rattle.horizon_run.proofs.resume.HorizonRunResume.unsettled.Goals as goal
 pub returns-in-Going-clause-stays : goal.returns-in-Going-clause-stays
 returns-in-Going-clause-stays c = rests c.args.self.now c.standing.ensures.settled
 
-pub returns-in-Found-clause-stays : goal.returns-in-Found-clause-stays
-returns-in-Found-clause-stays c = rests c.args.self.now c.standing.ensures.settled
-
-pub returns-in-Refuted-clause-stays : goal.returns-in-Refuted-clause-stays
-returns-in-Refuted-clause-stays c = rests c.args.self.now c.standing.ensures.settled
+pub returns-in_default-clause-stays : goal.returns-in_default-clause-stays
+returns-in_default-clause-stays c = rests c.args.self.now c.standing.ensures.settled

@@ -1,7 +1,4 @@
-use Rattle.std.proofs.Common.{◌≡◌, ◌∙◌, List, Bool, Result, ap, sym, Ok, not, true, false, [], ◌||◌}
-use Rattle.std.specs.List.{list_any}
-use Rattle.lrat_text.specs.declared.words.Signed.{Signed}
-use Rattle.containers.specs.declared.memory.Memory.{Memory}
+use Rattle.std.proofs.Common.{ap, Ok, true, []}
 use Rattle.lrat_text.proofs.LineLaws.{deletion_is, held_deletion, plain_ids_of}
 use Rattle.lrat_text.proofs.line.Line.read_deletion.Goals as goal
 

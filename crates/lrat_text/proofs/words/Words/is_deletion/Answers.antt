@@ -1,5 +1,5 @@
-use Rattle.std.proofs.Common.{◌≡◌, ◌∷◌, ◌∙◌, List, [], ℕ, drop, Bool, codes, if◌then◌else◌, sym, ap, true, false, rules}
-use Rattle.lrat_text.specs.Words.{begins_with, words_of}
+use Rattle.std.proofs.Common.{◌∙◌, drop, codes, sym, ap}
+use Rattle.lrat_text.specs.Words.{begins_with}
 use Rattle.lrat_text.proofs.WordsLaws.{letter, no_letter, longer_word}
 use Rattle.lrat_text.proofs.words.Words.is_deletion.Goals as goal
 

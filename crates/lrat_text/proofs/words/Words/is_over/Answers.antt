@@ -1,4 +1,4 @@
-use Rattle.std.proofs.Common.{◌≡◌, ◌==◌, ◌∙◌, List, ℕ, length, sym, ap}
+use Rattle.std.proofs.Common.{◌==◌, ◌∙◌, List, ℕ, length, ap}
 use Rattle.lrat_text.proofs.WordsLaws.{is_left}
 use Rattle.lrat_text.proofs.words.Words.is_over.Goals as goal
 

@@ -1,4 +1,4 @@
-use Rattle.std.proofs.Common.{◌≡◌, ◌∷◌, ◌∙◌, ℕ, List, [], length, take, sym, ap}
+use Rattle.std.proofs.Common.{◌≡◌, ◌∙◌, ℕ, List, length, take, sym, ap}
 use Rattle.lrat_text.proofs.Fronts.{next_word, no_word}
 use Rattle.lrat_text.proofs.words.Words.next.Goals as goal
 

@@ -3,9 +3,8 @@ use Rattle.race.specs.Input.{input_of}
 use Rattle.poll_race.specs.declared.phase.Phase.{Phase}
 use Rattle.poll_race.specs.Tied.{IsTied, is_given, numbers_at, runs_at}
 use Rattle.poll_race.specs.OnePoll.{DoesOne}
-use Rattle.poll_race.specs.Numbers.{IsBelow}
 use Rattle.poll_race.proofs.Standing.{standing}
-use Rattle.poll_race.proofs.Falls.{falls, bounded}
+use Rattle.poll_race.proofs.Falls.{falls_to}
 use Rattle.poll_race.proofs.poll_race.PollRaceFuture.poll.Goals as goal
 
 pub returns-in-Ok-On-clause-stands : goal.returns-in-Ok-On-clause-stands
@@ -19,15 +18,11 @@ returns-in-Ok-On-clause-stands g c =
 
 pub returns-in-Ok-On-clause-fewer : goal.returns-in-Ok-On-clause-fewer
 returns-in-Ok-On-clause-fewer g c =
-    let form = c.self.inside.form.now in
     let settings = c.self.inside.settings in
     let next = rw c.in-Ok-On.field-0-is at c.in-Ok-On.ensures.next in
-    let tied = subst (λ (p : Phase). IsTied settings.slice (input_of g.F.StepForm form settings) p) (sym c.put.ensures) next.0 in
-    let after = subst (λ (p : Phase). IsBelow (numbers_at c.replace-phase.result) (numbers_at p)) (sym c.put.ensures) next.2 in
-    let below = subst (λ (b : Phase). IsBelow (numbers_at b) (numbers_at c.put.new.place)) c.replace-phase.ensures.value after in
     rw c.yield_now.ensures.pending
     (rw (← c.self.view_is)
-    (falls settings.budget (numbers_at c.self.inside.phase) (numbers_at c.put.new.place) below (bounded settings.slice (input_of g.F.StepForm form settings) c.put.new.place tied)))
+    (falls_to settings.slice (input_of g.F.StepForm c.self.inside.form.now settings) c.replace-phase.result c.self.inside.phase _ c.put.new.place c.replace-phase.ensures.value c.put.ensures next.0 next.2))
 
 pub returns-in-Ok-On-clause-one : goal.returns-in-Ok-On-clause-one
 returns-in-Ok-On-clause-one g c =

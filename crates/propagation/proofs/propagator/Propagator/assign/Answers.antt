@@ -17,9 +17,10 @@ use Rattle.propagation.specs.Sound.{AreSound}
 use Rattle.propagation.specs.Tables.{AreTables, clauses_in, flags_in, pending_in}
 use Rattle.propagation.specs.Visit.{slot_set, IsAtRest, IsFit, AreSettled, MovesToFree}
 use Rattle.propagation.proofs.Asks.{consistent_push, last_true}
-use Rattle.propagation.proofs.AsksKept.{asks_longer}
+use Rattle.propagation.proofs.AsksKept.{asks_longer, asks_without}
 use Rattle.propagation.proofs.Assigns.{opposite_twice, assign_complete, assign_free, assign_quiets, whole_free}
 use Rattle.propagation.proofs.Founds.{found_complete}
+use Rattle.propagation.proofs.Gone.{or_gone, gone_more, gone_grows, settled_more, not_gone}
 use Rattle.propagation.proofs.Visits.{two_watched}
 use Rattle.propagation.proofs.Slotted.{slots_long, flags_long, slots_complete}
 use Rattle.propagation.proofs.propagator.Propagator.assign.Goals as goal
@@ -54,6 +55,9 @@ falsified c l op =
     ap (λ (ys : List ℕ). has_literal ys (opposite l)) (told c) ∙ ap (λ (x : ℕ). has_literal (literals w.trail.entries ++ c.args.entry.literal ∷ []) x)
     (ap opposite op ∙ opposite_twice c.args.entry.literal) ∙ last_true (literals w.trail.entries) c.args.entry.literal
 
+pub take_asking-requires : goal.take_asking-requires
+take_asking-requires c k h = omega (arith, c.self.invariant.0.asks.within k h, c.self.invariant.0.asks.long)
+
 pub mark_pairs-requires-clause-fit : goal.mark_pairs-requires-clause-fit
 mark_pairs-requires-clause-fit c = subst (λ (n : ℕ). IsFit c.self.inside.tables.store (2 * n))
     (sym (over (goal.at.mark_pairs-requires-clause-fit c).After-assignment-assignment)) c.self.invariant.0.tables.fit
@@ -68,8 +72,10 @@ mark_pairs-requires-clause-exact c = c.self.invariant.1.exact c.falsified.inside
 pub mark_pairs-requires-clause-asks : goal.mark_pairs-requires-clause-asks
 mark_pairs-requires-clause-asks c =
     let w = c.self.inside in
-    subst (λ (ys : List ℕ). HasAsks w.tables.store ys w.lists.pending) (sym (told (goal.at.mark_pairs-requires-clause-asks c).After-assignment-assignment))
-    (asks_longer w.tables.store (literals w.trail.entries) c.args.entry.literal w.lists.pending c.self.invariant.0.asks)
+    let now = c.take_asking.new.self in
+    subst (λ (ys : List ℕ). HasAsks w.tables.store ys now) (sym (told (goal.at.mark_pairs-requires-clause-asks c).After-assignment-assignment))
+    (asks_longer w.tables.store (literals w.trail.entries) c.args.entry.literal now
+    (asks_without w.tables.store (literals w.trail.entries) c.args.entry.literal w.lists.pending now c.self.invariant.0.asks c.take_asking.ensures))
 
 pub visit_all-requires-clause-code : goal.visit_all-requires-clause-code
 visit_all-requires-clause-code c =
@@ -119,26 +125,38 @@ settled c =
     (subst (λ (l : ℕ). AreSettled w.tables new c.assignment-assignment.result.trail l) op c.visit_all.ensures.settled)
 
 complete : (c : After-visit_all) → literals c.self.inside.trail.entries ++ c.args.entry.literal ∷ [] ≡ c.assignment-assignment.result.trail
+    → IsConsistent (literals c.self.inside.trail.entries ++ c.args.entry.literal ∷ [])
     → IsComplete (pending_in c.self.inside.tables (literals c.self.inside.trail.entries ++ c.args.entry.literal ∷ [])) c.visit_all.new.self.pending
-complete c tr =
+complete c tr cons =
     let w = c.self.inside in
     let i = c.self.invariant.0 in
+    let x = c.args.entry.literal in
     let trail = literals w.trail.entries in
+    let on = has_literal (trail ++ x ∷ []) in
     let slots = w.tables.slots.items in
+    let nodes = c.visit_all.new.self.chains.nodes.items in
     let was = words_have w.lists.pending.numbers in
+    let now = words_have c.take_asking.new.self.numbers in
     let is = words_have c.visit_all.new.self.pending.numbers in
+    let all = or_gone was now is in
     let e = c.visit_all.ensures in
-    let op : c.falsified.inside.0 ≡ opposite c.args.entry.literal = c.falsified.view_is ∙ c.opposite-falsified.ensures in
-    let slotted = assign_complete (clauses_in w.tables) w.lists.chains.nodes.items c.visit_all.new.self.chains.nodes.items (flags_in w.tables) trail
-    c.args.entry.literal (slot_set was slots) (slot_set is slots) (flags_long w.tables.kept.items slots ∙ sym (slots_long w.tables.store slots))
-    (two_watched (clauses_in w.tables) c.visit_all.new.self.froms.items c.visit_all.new.self.chains.heads.items c.visit_all.new.self.chains.nodes.items
+    let op : c.falsified.inside.0 ≡ opposite x = c.falsified.view_is ∙ c.opposite-falsified.ensures in
+    let more = gone_more was now is in
+    let grows = gone_grows was now is (λ k h. e.grows k (c.mark_pairs.ensures.grows k h)) in
+    let slotted = assign_complete (clauses_in w.tables) w.lists.chains.nodes.items nodes (flags_in w.tables) trail
+    x (slot_set was slots) (slot_set all slots) (flags_long w.tables.kept.items slots ∙ sym (slots_long w.tables.store slots))
+    (two_watched (clauses_in w.tables) c.visit_all.new.self.froms.items c.visit_all.new.self.chains.heads.items nodes
     (2 * c.assignment-assignment.result.variables) (flags_in w.tables) e.rest)
-    (whole_free (clauses_in w.tables) w.lists.chains.nodes.items (flags_in w.tables) trail i.free) (moves c) (settled c)
-    (λ k h. e.grows (get_or slots k 0) (c.mark_pairs.ensures.grows (get_or slots k 0) h)) (slots_complete w.tables.store w.tables.kept.items slots trail was i.complete) in
-    found_complete w.variables w.tables.store w.tables.kept.items trail slots c.args.entry.literal w.pairs (pairs_of w.pairs c.falsified.inside.0) was
-    is i.tables.kept c.self.invariant.1 (ap (λ (l : ℕ). pairs_of w.pairs l) op)
-    (λ k h none. e.grows _ (c.mark_pairs.ensures.in_set k h (ap (λ (ys : List ℕ). has_literal ys (pair_in (pairs_of w.pairs c.falsified.inside.0) k).other) (sym tr) ∙ none)))
-    (λ k h. e.grows k (c.mark_pairs.ensures.grows k h)) i.complete slotted
+    (whole_free (clauses_in w.tables) w.lists.chains.nodes.items (flags_in w.tables) trail i.free) (moves c)
+    (settled_more (clauses_in w.tables) nodes on (slot_set is slots) (slot_set all slots) (opposite x) (flags_in w.tables) (λ k h. more (get_or slots k 0) h) (settled c))
+    (λ k h. grows (get_or slots k 0) h) (slots_complete w.tables.store w.tables.kept.items slots trail was i.complete) in
+    let found = found_complete w.variables w.tables.store w.tables.kept.items trail slots x w.pairs (pairs_of w.pairs c.falsified.inside.0) was
+    all i.tables.kept c.self.invariant.1 (ap (λ (l : ℕ). pairs_of w.pairs l) op)
+    (λ k h none. more _ (e.grows _ (c.mark_pairs.ensures.in_set k h (ap (λ (ys : List ℕ). has_literal ys (pair_in (pairs_of w.pairs c.falsified.inside.0) k).other) (sym tr) ∙ none))))
+    grows i.complete slotted in
+    not_gone w.tables.store w.tables.kept.items (trail ++ x ∷ []) x w.lists.pending c.take_asking.new.self is cons
+    (asks_longer w.tables.store trail x w.lists.pending i.asks) c.take_asking.ensures (last_true trail x)
+    (omega (arith, c.requires.below, ap (λ (v : PropagatorView). v.variables) c.self.view_is, i.small)) found
 
 pub invariant_of-self : goal.invariant_of-self
 invariant_of-self c =
@@ -162,7 +180,7 @@ invariant_of-self c =
           (slot_set (words_have l'.pending.numbers) w.tables.slots.items) i.free (moves visited) (settled visited);
       consistent = consistent here;
       asks = subst (λ (ys : List ℕ). HasAsks w.tables.store ys l'.pending) (told here) e.asks;
-      complete = complete visited (sym (told here));
+      complete = complete visited (sym (told here)) (consistent here);
       quiet_size = length-set w.quiet.items c.length-length.result c.is_none.result ∙ i.quiet_size;
       quiets = assign_quiets w.tables.store w.tables.kept.items trail x w.quiet.items c.length-length.result c.least-least.result c.is_none.result
           (words_have w.lists.pending.numbers) long (omega (arith, c.length-length.ensures.short, c.self.invariant.2, i.quiet_size))

@@ -1,10 +1,14 @@
 use Rattle.std.proofs.Common.{arith, subst, ◌≡◌, ◌<◌, ◌*◌, ℕ, List, ◌∙◌, ap, false, get_or, length, take, sym}
 use Rattle.std.proofs.lemmas.List.{take_all, length-take-le, length-map}
+use Rattle.clause_base.specs.Clause.{has_literal}
 use Rattle.cdcl_rules.specs.declared.trail.Assigned.{Assigned}
+use Rattle.cdcl_rules.specs.Pending.{is_pending_in}
 use Rattle.cdcl_trail.specs.Assignment.{AssignmentView, literals}
 use Rattle.cdcl_trail.specs.Mirrored.{TrailView}
 use Rattle.propagation.specs.Asks.{HasAsks}
+use Rattle.propagation.specs.Back.{taken_back}
 use Rattle.propagation.specs.Front.{IsComplete}
+use Rattle.propagation.specs.Pending.{PropagatorView}
 use Rattle.propagation.specs.Sound.{AreSound}
 use Rattle.propagation.specs.Tables.{AreTables, pending_in}
 use Rattle.propagation.proofs.Undoes.{undo_sound, short_of, taken_le}
@@ -77,6 +81,16 @@ refresh-requires-clause-quiet c q k =
     let flag = ap (λ (n : ℕ). get_or w.quiet.items n false) (sym (long_is at)) ∙ q in
     ap (λ (xs : List ℕ). pending_in w.tables xs k) (told at ∙ taken at)
     ∙ c.self.invariant.0.quiets (length c.take_back.new.trail.entries) (less at) flag k
+
+pub refresh-requires-clause-listed : goal.refresh-requires-clause-listed
+refresh-requires-clause-listed c k p b =
+    let w = c.self.inside in
+    let at = (goal.at.refresh-requires-clause-listed c).After-assignment-assignment in
+    let e = told at ∙ ap (λ (t : TrailView). literals t.entries) c.take_back.ensures in
+    let same =
+    ap (λ (xs : List ℕ). pending_in w.tables xs k) e
+    ∙ ap (λ (v : PropagatorView). is_pending_in v.clauses v.kept (has_literal (literals (taken_back c.args.to v.entries))) k) c.self.view_is in
+    c.requires k (sym same ∙ p) b
 
 pub invariant_of-self-2 : goal.invariant_of-self-2
 invariant_of-self-2 c =

@@ -1,8 +1,0 @@
-use Rattle.std.proofs.Common.{◌≡◌, true, false, ℕ, drop}
-use Rattle.bit_sets.specs.Rows.{row_has}
-use Rattle.implied_literals.specs.Rows.{clause_in}
-use Rattle.invariant_rounds.specs.Plain.{has_opposite}
-use Rattle.invariant_rounds.proofs.harmless.are_opposites_among.Given as goal
-
-abbrev pub invariant-loop-effect : goal.invariant-loop-effect
-invariant-loop-effect l = (k m : ℕ) → clause_in l.clauses k m ≡ true → clause_in l.lost k m ≡ false → has_opposite l.effects k ≡ true → (has_opposite (drop l.effect-index l.effects) k ≡ true → row_has l.set m ≡ true) → row_has l.set m ≡ true
