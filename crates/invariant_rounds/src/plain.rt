@@ -48,27 +48,6 @@ fn take_opposites(effects: &[Eff], given: &BitRow, sure: &mut BitRow)
     }
 }
 
-/// Adds the clauses that effects break.
-fn add_broken(
-    facts: u32,
-    clauses: &[BitRow],
-    effects: &[Eff],
-    given: &BitRow,
-    sure: &BitRow,
-    lost: &mut Vec<BitRow>,
-) -> Result<(), AllocError>
-    requires clauses { AreRows facts clauses.now }
-    requires effects { AllByRecursion (EffectFits (2 * facts)) effects.now }
-    requires rows { length lost.old.items ≡ 2 * facts }
-    ensures long { length lost.new.items ≡ length lost.old.items }
-    ensures lost { OnOk result ((l m : ℕ) → clause_in lost.new.items l m ≡ (clause_in lost.old.items l m || (clause_in clauses.now l m && (takes_plainly (row_has given.now) effects.now l && not (row_has sure.now m))))) }
-{
-    for effect in effects {
-        add_loss(clauses, given, sure, opposite(effect.lit()), lost)?;
-    }
-    Ok(())
-}
-
 /// Adds the clauses that effects without condition break where a set is known before the action, which is used up.
 pub fn add_plain_losses(
     alloc: Global,
@@ -89,6 +68,9 @@ pub fn add_plain_losses(
     insert_literals(effects, &mut given)?;
     set.unite(&given)?;
     take_opposites(effects, &given, set);
-    add_broken(facts, clauses, effects, &given, set, lost)?;
+    let gives = &given;
+    for effect in effects {
+        add_loss(clauses, gives, set, opposite(effect.lit()), lost)?;
+    }
     Ok(())
 }

@@ -1,11 +1,13 @@
 -- The files of a request, and what is handed on.
-use Rattle.std.proofs.Common.{◌≡◌, ◌≤◌, ◌<◌, ◌∙◌, ℕ, Bool, List, [], ◌∷◌, length, get_or, Result, refl, subst, ap, arith}
+use Rattle.std.proofs.Common.{◌≡◌, ◌≤◌, ◌<◌, ◌∙◌, ℕ, Bool, List, [], ◌∷◌, length, Result, refl, subst, ap, arith}
 use Rattle.std.specs.Prelude.{IsErrAnd}
 use Rattle.std.specs.List.{AllByRecursion}
 use Rattle.std.proofs.lemmas.List.{length-map}
 use Rattle.gt_core.specs.Task.{Task}
 use Rattle.horizon_rates.specs.declared.settings.Settings.{Settings}
 use Rattle.pd_model.specs.declared.parts.Parts.{Parts}
+use Rattle.requests.specs.Seen.{seen, files_of}
+use Rattle.requests.specs.declared.request.Request.{Request}
 use Rattle.grounding_laws.specs.Grounded.{Grounded, IsGrounded}
 use Rattle.race_end.specs.declared.end.RaceEnd.{RaceEnd}
 use Rattle.race_end.specs.declared.end.RaceEnd.TheVariants as races
@@ -24,6 +26,10 @@ use Rattle.input_files.proofs.Stopped.{EndsAs-handed}
 pub none_are : (files : List (List ℕ)) → length files ≡ 0 → files ≡ []
 none_are [] none = refl
 none_are (f ∷ fs) none = absurd (omega arith)
+
+-- there are as many files as the request of an arm names
+pub counted : (files : List (List ℕ)) (asked request : Request) (n : ℕ) → length files ≡ length (files_of (seen asked)) → asked ≡ request → length (files_of (seen request)) ≡ n → length files ≡ n
+counted files asked request n all is so_many = all ∙ ap (λ (r : Request). length (files_of (seen r))) is ∙ so_many
 
 -- ---- what is handed on
 

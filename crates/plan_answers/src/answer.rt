@@ -33,6 +33,7 @@ use task_text::{push_ground, push_order};
 use two_invariants::find;
 
 /// What the bytes of its files, in the order of the words, decide for a request.
+#[tactic(auto, using(crate::proofs::Answered::counted))]
 pub fn answer<H: Threads + Wait + Sync, G: Gate>(
     rt: &H,
     alloc: Global,

@@ -51,31 +51,19 @@ fn races_of<'a>(
 {
     let mut races = Vec::new(alloc);
     for place in 0..runs.len() {
-        races.push(race_of(alloc, &runs[place], &forms[place], settings)?)?;
+        let task = runs[place].ready.grounded.task();
+        let form = &forms[place];
+        let race = PollRace::new(
+            alloc,
+            task,
+            form,
+            settings.rates,
+            settings.budget,
+            settings.slice,
+        )?;
+        races.push(race)?;
     }
     Ok(races)
-}
-
-// The race of a run over its form.
-fn race_of<'a>(
-    alloc: Global,
-    run: &'a Run,
-    form: &'a ExistsForm<'a>,
-    settings: &Settings,
-) -> Result<PollRace<'a, ExistsForm<'a>>, Stop>
-    requires { IsFormOf run.now form.now }
-    ensures race { IfOk result (IsRaceOf settings.now run.now) }
-    ensures memory { OnlyMemory result }
-{
-    let task = run.ready.grounded.task();
-    Ok(PollRace::new(
-        alloc,
-        task,
-        form,
-        settings.rates,
-        settings.budget,
-        settings.slice,
-    )?)
 }
 
 // The place of this turn among so many.

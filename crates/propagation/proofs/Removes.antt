@@ -61,10 +61,10 @@ removed_sound v t t' l trail quiet n i store slots kept = record {
     on = i.rest.on;
     linked = i.rest.linked;
     long = i.rest.long;
-    there = λ node real must. i.rest.there node real (flags_before t.kept.items t.slots.items n _ must);
     codes = i.rest.codes;
     many = i.rest.many;
     real = i.rest.real;
+    there = λ node real must. i.rest.there node real (flags_before t.kept.items t.slots.items n _ must);
     blockings = i.rest.blockings;
     apart = i.rest.apart;
   });

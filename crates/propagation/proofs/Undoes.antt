@@ -2,7 +2,7 @@
 use Rattle.std.proofs.Common.{arith, ◌≡◌, ℕ, zero, suc, [], ◌∷◌, ◌*◌, ◌≤◌, List, Bool, length, take, refl, sym, ap, ◌∙◌, subst}
 use Rattle.std.proofs.lemmas.List.{take_all, take-take, take-map, length-take-le, length-map}
 use Rattle.cdcl_rules.specs.declared.trail.Assigned.{Assigned}
-use Rattle.cdcl_trail.specs.Assignment.{literals}
+use Rattle.cdcl_trail.specs.Assignment.{AssignmentView, literals}
 use Rattle.cdcl_trail.proofs.Assignments.{literals_back, back_le}
 use Rattle.propagation.specs.declared.undo.Back.{Back}
 use Rattle.propagation.specs.declared.undo.Back.TheVariants.{Length, Level}
@@ -11,7 +11,7 @@ use Rattle.propagation.specs.declared.pending.Pending.{Pending}
 use Rattle.propagation.specs.declared.tables.Tables.{Tables}
 use Rattle.propagation.specs.declared.visit.Lists.{Lists}
 use Rattle.propagation.specs.Asks.{HasAsks, IsConsistent}
-use Rattle.propagation.specs.Front.{IsComplete, StayWhere}
+use Rattle.propagation.specs.Front.{AreRead, IsComplete, StayWhere}
 use Rattle.propagation.specs.Sound.{AreFree, AreSound}
 use Rattle.propagation.specs.Tables.{AreTables, clauses_in, flags_in, pending_in}
 use Rattle.propagation.proofs.Asks.{consistent_take}
@@ -69,22 +69,18 @@ pub sound_set : (v : ℕ) (t : Tables) (l : Lists) (trail : List ℕ) (quiet : L
     → HasAsks t.store trail p → IsComplete (pending_in t trail) p → AreSound v t (record l { pending = p }) trail quiet
 sound_set v t l trail quiet p i asks complete = undo_sound v t l trail quiet (length trail) trail p i (sym (take_all (length trail) trail (omega arith))) (omega arith) asks complete
 
+-- the assignment of the trail tells what holds of the tables
+pub read_as : (v : ℕ) (t : Tables) (l : Lists) (trail : List ℕ) (quiet : List Bool) (n : ℕ) (a : AssignmentView) → AreSound v t l trail quiet → n ≡ v
+    → a ≡ record { variables = n; trail = trail } → AreRead t a l.pending
+read_as v t l trail quiet n a i e f =
+    subst (λ (b : AssignmentView). AreRead t b l.pending) (sym f)
+    (record { tables = subst (λ (m : ℕ). AreTables t (2 * m)) (sym e) i.tables; consistent = i.consistent; asks = i.asks })
+
 -- of the set members go that are not pending
-pub sound_stay : (v : ℕ) (t : Tables) (l : Lists) (trail' trail : List ℕ) (quiet : List Bool) (p : Pending) → trail' ≡ trail
-    → AreSound v t l trail quiet → HasAsks t.store trail' p → StayWhere (pending_in t trail') l.pending p
-    → AreSound v t (record l { pending = p }) trail quiet
-sound_stay v t l trail' trail quiet p e i asks stay = sound_set v t l trail quiet p i (subst (λ (xs : List ℕ). HasAsks t.store xs p) e asks)
+pub sound_stay : (v : ℕ) (t : Tables) (l : Lists) (trail : List ℕ) (quiet : List Bool) (n : ℕ) (a : AssignmentView) (p : Pending)
+    → AreSound v t l trail quiet → a ≡ record { variables = n; trail = trail } → HasAsks t.store a.trail p
+    → StayWhere (pending_in t a.trail) l.pending p → AreSound v t (record l { pending = p }) trail quiet
+sound_stay v t l trail quiet n a p i f asks stay =
+    let e : a.trail ≡ trail = ap (λ (b : AssignmentView). b.trail) f in
+    sound_set v t l trail quiet p i (subst (λ (xs : List ℕ). HasAsks t.store xs p) e asks)
     (stay_complete (pending_in t trail) l.pending p i.complete (subst (λ (xs : List ℕ). StayWhere (pending_in t xs) l.pending p) e stay))
-
--- what holds of the tables as the assignment of the trail tells it
-pub record AreRead (v : ℕ) (t : Tables) (trail : List ℕ) (p : Pending) : Type 0 where
-  pub tables : AreTables t (2 * v)
-  pub consistent : IsConsistent trail
-  pub asks : HasAsks t.store trail p
-  pub complete : IsComplete (pending_in t trail) p
-
-pub read_as : (v : ℕ) (t : Tables) (l : Lists) (trail : List ℕ) (quiet : List Bool) (v' : ℕ) (trail' : List ℕ) → AreSound v t l trail quiet → v' ≡ v
-    → trail' ≡ trail → AreRead v' t trail' l.pending
-read_as v t l trail quiet v' trail' i e f =
-    subst (λ (n : ℕ). AreRead n t trail' l.pending) (sym e) (subst (λ (xs : List ℕ). AreRead v t xs l.pending) (sym f)
-    (record { tables = i.tables; consistent = i.consistent; asks = i.asks; complete = i.complete }))

@@ -1,11 +1,21 @@
 -- The least clause that is kept and pending, and what it asks for.
-use Rattle.std.specs.Prelude.{◌≡◌, ℕ, ◌&&◌, List, Bool, true, false, length, Option, Some, None}
+use Rattle.std.specs.Prelude.{◌≡◌, ℕ, ◌*◌, ◌&&◌, List, Bool, true, false, length, Option, Some, None}
 use Rattle.cdcl_rules.specs.declared.event.Event.{Event}
 use Rattle.cdcl_rules.specs.State.{clause_at}
 use Rattle.cdcl_rules.specs.Pending.{open_ones, is_pending_in, least_from}
 use Rattle.cdcl_rules.specs.Event.{asked}
+use Rattle.cdcl_trail.specs.Assignment.{AssignmentView}
 use Rattle.bit_sets.specs.Layered.{words_have}
 use Rattle.propagation.specs.declared.pending.Pending.{Pending}
+use Rattle.propagation.specs.declared.tables.Tables.{Tables}
+use Rattle.propagation.specs.Asks.{HasAsks, IsConsistent}
+use Rattle.propagation.specs.Tables.{AreTables}
+
+-- what the set is cleaned by: the tables, an assignment without contradiction, and what each member asks for under it
+pub record AreRead (t : Tables) (a : AssignmentView) (p : Pending) : Type 0 where
+  pub tables : AreTables t (2 * a.variables)
+  pub consistent : IsConsistent a.trail
+  pub asks : HasAsks t.store a.trail p
 
 -- what the clause with a number asks for, where this tells the true literals
 abbrev pub asked_at : List (List ℕ) → (ℕ → Bool) → ℕ → Event

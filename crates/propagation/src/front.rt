@@ -4,7 +4,7 @@ ghost use Rattle.std.specs.Prelude.{◌≡◌, ◌*◌, ◌<◌, ◌≤◌, leng
 ghost use Rattle.clause_base.specs.Clause.{has_literal};
 ghost use Rattle.bit_sets.specs.Layered.{words_have};
 ghost use Rattle.propagation.specs.Asks.{HasAsks, IsAsk, IsConsistent};
-ghost use Rattle.propagation.specs.Front.{asked_at, first_asked, IsAnswer, IsComplete, StayWhere};
+ghost use Rattle.propagation.specs.Front.{AreRead, asked_at, first_asked, IsAnswer, IsComplete, StayWhere};
 ghost use Rattle.propagation.specs.Known.{AreListed};
 ghost use Rattle.propagation.specs.Tables.{AreTables, pending_in};
 ghost use Rattle.propagation.specs.Visit.{Grows};
@@ -49,9 +49,7 @@ fn answer(tables: &Tables, assignment: &Assignment, number: u32, ask: u32) -> Op
 /// What the least member asks for that is kept and pending. Lesser members go.
 #[inline(always)]
 pub fn next(tables: &Tables, assignment: &Assignment, pending: &mut Pending) -> Option<Event>
-    requires tables { AreTables tables.now (2 * assignment.now.variables) }
-    requires consistent { IsConsistent assignment.now.trail }
-    requires asks { HasAsks tables.now.store assignment.now.trail pending.old }
+    requires { AreRead tables.now assignment.now pending.old }
     ensures first { IsComplete (pending_in tables.now assignment.now.trail) pending.old → result ≡ first_asked tables.now.store tables.now.kept.items (has_literal assignment.now.trail) }
     ensures asks { HasAsks tables.now.store assignment.now.trail pending.new }
     ensures stay { StayWhere (pending_in tables.now assignment.now.trail) pending.old pending.new }

@@ -2,8 +2,8 @@
 //! length, and no others.
 ghost use Rattle.std.specs.Prelude.{◌≡◌, ℕ, ◌*◌, ◌<◌, ◌≤◌, length, true, slice_index};
 ghost use Rattle.bit_sets.specs.Layered.{words_have};
-ghost use Rattle.propagation.specs.Asks.{HasAsks, IsConsistent};
-ghost use Rattle.propagation.specs.Front.{StayWhere};
+ghost use Rattle.propagation.specs.Asks.{HasAsks};
+ghost use Rattle.propagation.specs.Front.{AreRead, StayWhere};
 ghost use Rattle.propagation.specs.Known.{IsListed};
 ghost use Rattle.propagation.specs.Tables.{AreTables, pending_in};
 ghost use Rattle.propagation.specs.Visit.{Grows};
@@ -47,9 +47,7 @@ pub fn list_from(
     pending: &mut Pending,
     place: usize,
 ) -> Known
-    requires tables { AreTables tables.now (2 * assignment.now.variables) }
-    requires consistent { IsConsistent assignment.now.trail }
-    requires asks { HasAsks tables.now.store assignment.now.trail pending.old }
+    requires read { AreRead tables.now assignment.now pending.old }
     requires place { place ≤ 4 }
     ensures listed { (k : ℕ) → pending_in tables.now assignment.now.trail k ≡ true → words_have pending.old.numbers k ≡ true → k < result.from → IsListed result.numbers place k }
     ensures below { result.from ≤ length tables.now.store }

@@ -91,14 +91,14 @@ fn mark_fact(
     falsified: u32,
     pending: &mut Pending,
 )
-    requires listed { AreListed store.now falsified lists.now }
     requires fit { IsFit store.now (2 * assignment.now.variables) }
     requires falsified { has_literal assignment.now.trail (opposite falsified) ≡ true }
     requires origin { lists.now.origin ≡ Time time fact }
+    requires listed { AreListed store.now falsified lists.now }
     requires asks { HasAsks store.now assignment.now.trail pending.old }
+    ensures in_set { AreAllMarked assignment.now.trail lists.now pending.new }
     ensures grows { Grows (words_have pending.old.numbers) (words_have pending.new.numbers) }
     ensures asks { HasAsks store.now assignment.now.trail pending.new }
-    ensures in_set { AreAllMarked assignment.now.trail lists.now pending.new }
 {
     let ending = lists.last(time, fact);
     mark_list(store, ending, assignment, falsified, pending);
@@ -113,18 +113,18 @@ fn mark_fact(
 #[inline(always)]
 fn mark_repeated(
     store: &Store,
-    falsified: u32,
     lists: &Lists,
     assignment: &Assignment,
+    falsified: u32,
     pending: &mut Pending,
 )
-    requires listed { AreListed store.now falsified lists.now }
     requires fit { IsFit store.now (2 * assignment.now.variables) }
     requires falsified { has_literal assignment.now.trail (opposite falsified) ≡ true }
+    requires listed { AreListed store.now falsified lists.now }
     requires asks { HasAsks store.now assignment.now.trail pending.old }
+    ensures in_set { AreAllMarked assignment.now.trail lists.now pending.new }
     ensures grows { Grows (words_have pending.old.numbers) (words_have pending.new.numbers) }
     ensures asks { HasAsks store.now assignment.now.trail pending.new }
-    ensures in_set { AreAllMarked assignment.now.trail lists.now pending.new }
 {
     match lists.origin() {
         Origin::Step(step, code) => mark_list(
@@ -146,8 +146,8 @@ fn mark_repeated(
 pub fn mark_pairs(
     store: &Store,
     index: &PairIndex,
-    falsified: u32,
     assignment: &Assignment,
+    falsified: u32,
     pending: &mut Pending,
 )
     requires fit { IsFit store.now (2 * assignment.now.variables) }
@@ -161,7 +161,7 @@ pub fn mark_pairs(
 {
     let lists = index.lists(falsified);
     mark_list(store, lists.told(), assignment, falsified, pending);
-    mark_repeated(store, falsified, &lists, assignment, pending);
+    mark_repeated(store, &lists, assignment, falsified, pending);
     // With a second caller the loop stays a function of its own, and so the test before it goes into this one.
     match lists.after() {
         None => {}

@@ -179,8 +179,8 @@ impl Propagator {
         mark_pairs(
             &self.tables.store,
             &self.pairs,
-            falsified.0,
             &assignment,
+            falsified.0,
             &mut self.lists.pending,
         );
         self.lists.visit_all(&self.tables, &assignment, falsified.0);

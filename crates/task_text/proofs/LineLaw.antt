@@ -1,4 +1,4 @@
-use Rattle.std.proofs.Common.{◌≡◌, ◌+◌, ◌≤◌, ℕ, List, ◌++◌, map, length, codes, decimal, drop, slice_get, Some, sym, ap, ◌∙◌}
+use Rattle.std.proofs.Common.{arith, ◌≡◌, ◌+◌, ◌≤◌, ℕ, List, ◌++◌, map, length, codes, decimal, drop, slice_get, Some, sym, ap, ◌∙◌}
 use Rattle.std.proofs.lemmas.List.{append_assoc, drop_all, append-nil}
 use Rattle.task_text.specs.Text.{numbered}
 use Rattle.atom_join.proofs.Parts.{got_rest}
@@ -28,7 +28,7 @@ line_next line xs n x before one two after e o t a =
     ∙ ap (λ (ys : List ℕ). ys ++ numbered (n + 1) (map line (drop (n + 1) xs))) (sym a)
 
 pub lines_done :
-    {X : Type 0} (line : X → List ℕ) (xs : List X) (n : ℕ) (before after : List ℕ) → length xs ≤ n
+    {X : Type 0} (line : X → List ℕ) (xs : List X) (n count : ℕ) (before after : List ℕ) → count ≡ length xs → count ≤ n
     → before ++ numbered 0 (map line xs) ≡ after ++ numbered n (map line (drop n xs)) → after ≡ before ++ numbered 0 (map line xs)
-lines_done line xs n before after le e =
-    sym (append-nil after) ∙ ap (λ ys. after ++ numbered n (map line ys)) (sym (drop_all n xs le)) ∙ sym e
+lines_done line xs n count before after all le e =
+    sym (append-nil after) ∙ ap (λ ys. after ++ numbered n (map line ys)) (sym (drop_all n xs (omega (arith, all, le)))) ∙ sym e

@@ -15,6 +15,7 @@ use pd_model::{Memory, Pddl};
 use report_lines::push_number;
 
 /// Appends the lines of the facts, of which there are so many.
+#[tactic(auto, using(crate::proofs::LineLaw::lines_done))]
 fn push_facts(p: &Pddl, g: &Grounded, facts: u32, text: &mut Vec<u8>) -> Result<(), Memory>
     requires { facts ≡ length g.now.facts }
     ensures { OnOk result (text.new.items ≡ text.old.items ++ numbered 0 (map (atom_text p.now) g.now.facts)) }
@@ -28,6 +29,7 @@ fn push_facts(p: &Pddl, g: &Grounded, facts: u32, text: &mut Vec<u8>) -> Result<
 }
 
 /// Appends the lines of the actions, of which there are so many.
+#[tactic(auto, using(crate::proofs::LineLaw::lines_done))]
 fn push_actions(p: &Pddl, g: &Grounded, actions: u32, text: &mut Vec<u8>) -> Result<(), Memory>
     requires { actions ≡ length g.now.calls }
     ensures { OnOk result (text.new.items ≡ text.old.items ++ numbered 0 (map (call_text p.now) g.now.calls)) }

@@ -46,16 +46,9 @@ walk_of heads nodes on code done rest place m h c b n =
     let part = chain_part nodes (get_or heads code 0) done rest c in
     let short = chain_short nodes (get_or heads code 0) (done ++ rest) c once in
     let few : length rest ≤ length nodes = omega (arith, short, length-append done rest) in
-    record {
-      linked = m;
-      inside = h;
-      done = done;
-      chain = c;
-      before = b;
-      node = n;
-      left = ap (λ (y : ℕ). steps nodes (length nodes) y) n ∙ steps_is nodes (length nodes) (first_of rest) rest m.few part few;
-      ahead = all_on on code rest (λ k e. m.only code k h (ap (λ (xs : List ℕ). has xs k) q ∙ has_after done rest k e));
-    }
+    let left = ap (λ (y : ℕ). steps nodes (length nodes) y) n ∙ steps_is nodes (length nodes) (first_of rest) rest m.few part few in
+    let ahead = all_on on code rest (λ k e. m.only code k h (ap (λ (xs : List ℕ). has xs k) q ∙ has_after done rest k e)) in
+    search (left, ahead)
 
 pub walk_first : (heads : List ℕ) (nodes : List Node) (on : ℕ → Option ℕ) (code : ℕ) (place : Place) → code < length heads → place.before ≡ 4294967295
     → place.node ≡ get_or heads code 0 → IsLinked heads nodes on → StandsAt heads nodes on code place

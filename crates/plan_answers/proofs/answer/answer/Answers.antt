@@ -3,28 +3,16 @@ use Rattle.input_files.proofs.Stopped.{EndsAs-weaker}
 use Rattle.plan_answers.proofs.Answered.{none_are}
 use Rattle.plan_answers.proofs.answer.answer.Goals as goal
 
-pub two_of-requires-clause-count : goal.two_of-requires-clause-count
-two_of-requires-clause-count g c = rw c.in-Plan.is at c.requires.count
-
 pub returns-in-Plan : goal.returns-in-Plan
 returns-in-Plan g c =
     let settings = c.in-Plan.settings in
     EndsAs-weaker _ _ (λ end h. rw (c.in-Plan.is, c.two_of.ensures.files) (settings, refl, h)) c.answer_plan.result c.answer_plan.ensures
 
-pub two_of-requires-in-Ground-clause-count : goal.two_of-requires-in-Ground-clause-count
-two_of-requires-in-Ground-clause-count g c = rw c.in-Ground.is at c.requires.count
-
 pub returns-in-Ground : goal.returns-in-Ground
 returns-in-Ground g c = EndsAs-weaker _ _ (λ end h. rw (c.in-Ground.is, c.two_of-in-Ground.ensures.files) h) c.answer_ground.result c.answer_ground.ensures
 
-pub two_of-requires-in-Order-clause-count : goal.two_of-requires-in-Order-clause-count
-two_of-requires-in-Order-clause-count g c = rw c.in-Order.is at c.requires.count
-
 pub returns-in-Order : goal.returns-in-Order
 returns-in-Order g c = EndsAs-weaker _ _ (λ end h. rw (c.in-Order.is, c.two_of-in-Order.ensures.files) h) c.answer_order.result c.answer_order.ensures
-
-pub three_of-requires-clause-count : goal.three_of-requires-clause-count
-three_of-requires-clause-count g c = rw c.in-Check.is at c.requires.count
 
 pub answer_check-requires-clause-plan_fits : goal.answer_check-requires-clause-plan_fits
 answer_check-requires-clause-plan_fits g c = rw c.in-Check.is at c.three_of.ensures.third
@@ -37,14 +25,8 @@ returns-in-Gen g c =
     let settings = c.in-Gen.settings in
     EndsAs-weaker _ _ (λ end h. rw c.in-Gen.is (none_are c.args.files.now (rw c.in-Gen.is at c.requires.count), (settings, refl, h))) c.answer_gen.result c.answer_gen.ensures
 
-pub two_of-requires-in-Prove-clause-count : goal.two_of-requires-in-Prove-clause-count
-two_of-requires-in-Prove-clause-count g c = rw c.in-Prove.is at c.requires.count
-
 pub returns-in-Prove : goal.returns-in-Prove
 returns-in-Prove g c = EndsAs-weaker _ _ (λ end h. rw (c.in-Prove.is, c.two_of-in-Prove.ensures.files) h) c.answer_prove.result c.answer_prove.ensures
-
-pub three_of-requires-in-Verify-clause-count : goal.three_of-requires-in-Verify-clause-count
-three_of-requires-in-Verify-clause-count g c = rw c.in-Verify.is at c.requires.count
 
 pub answer_verify-requires-clause-proof_fits : goal.answer_verify-requires-clause-proof_fits
 answer_verify-requires-clause-proof_fits g c κs within = rw c.in-Verify.is at c.three_of-in-Verify.ensures.third

@@ -13,8 +13,10 @@ loop-place-init c =
     record {
       within = c.requires.two;
       latest = c.of_two-two.ensures trail k v
-          (subst (λ (l : ℕ). IsFreeUntil trail l v c.free_until-one.result) a (record { lasts = c.free_until-one.ensures.lasts; within = c.free_until-one.ensures.within; short = c.free_until-one.ensures.short }))
-          (subst (λ (l : ℕ). IsFreeUntil trail l v c.free_until-other.result) b (record { lasts = c.free_until-other.ensures.lasts; within = c.free_until-other.ensures.within; short = c.free_until-other.ensures.short }));
+          (subst (λ (l : ℕ). IsFreeUntil trail l v c.free_until-one.result) a
+          (record { lasts = c.free_until-one.ensures.lasts; within = c.free_until-one.ensures.within; short = c.free_until-one.ensures.short }))
+          (subst (λ (l : ℕ). IsFreeUntil trail l v c.free_until-other.result) b
+          (record { lasts = c.free_until-other.ensures.lasts; within = c.free_until-other.ensures.within; short = c.free_until-other.ensures.short }));
     }
 
 pub loop-place-preserved : goal.loop-place-preserved
@@ -27,7 +29,8 @@ loop-place-preserved c =
     record {
       within = omega (arith, c.loop-place-test.true);
       latest = c.with_place-two.ensures trail k v c.loop-place.invariant.latest
-          (subst (λ (l : ℕ). IsFreeUntil trail l v c.free_until-until.result) lit (record { lasts = c.free_until-until.ensures.lasts; within = c.free_until-until.ensures.within; short = c.free_until-until.ensures.short }));
+          (subst (λ (l : ℕ). IsFreeUntil trail l v c.free_until-until.result) lit
+          (record { lasts = c.free_until-until.ensures.lasts; within = c.free_until-until.ensures.within; short = c.free_until-until.ensures.short }));
     }
 
 pub returns : goal.returns

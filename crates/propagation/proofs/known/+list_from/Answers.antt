@@ -1,10 +1,10 @@
-use Rattle.std.proofs.Common.{arith, rules, ◌≡◌, ◌<◌, ℕ, length, get_or, sym, subst}
+use Rattle.std.proofs.Common.{arith, rules, ◌<◌, length, sym, subst}
 use Rattle.std.proofs.lemmas.List.{get_or_read}
 use Rattle.clause_base.specs.Clause.{has_literal}
 use Rattle.bit_sets.specs.Layered.{words_have}
 use Rattle.cdcl_rules.specs.State.{clause_at}
-use Rattle.propagation.specs.declared.pending.Pending.{Pending}
 use Rattle.propagation.specs.Asks.{HasAsks, IsAsk}
+use Rattle.propagation.specs.Front.{AreRead}
 use Rattle.propagation.specs.Tables.{pending_in}
 use Rattle.propagation.proofs.Asks.{cleaned_fewer}
 use Rattle.propagation.proofs.AsksKept.{asks_fewer, asks_put}
@@ -18,6 +18,8 @@ list_from-known-requires t c =
     asks_fewer c.args.tables.now.store c.args.assignment.now.trail first c.remove_least.new.self c.next.ensures.asks
     (cleaned_fewer (words_have first.numbers) (words_have c.remove_least.new.self) c.in-Some.number (c.remove_least.ensures.has c.in-Some.number c.in-Some.ensures))
     (omega (arith, c.remove_least.ensures.room)) in
+    let read : AreRead c.args.tables.now c.args.assignment.now (record first { numbers = c.remove_least.new.self }) =
+    record { tables = c.requires.read.tables; consistent = c.requires.read.consistent; asks = less } in
     search rules
 
 pub returns-else-place-eq-FEW-clause-listed : goal.returns-else-place-eq-FEW-clause-listed

@@ -1,4 +1,4 @@
-use Rattle.std.proofs.Common.{ℕ, ◌-◌}
+use Rattle.std.proofs.Common.{◌-◌}
 use Rattle.propagation.proofs.known.+list_from.Given as goal
 
 abbrev pub decreases-list_from : goal.decreases-list_from

@@ -1,6 +1,6 @@
-use Rattle.std.proofs.Common.{arith, ◌≤◌, ◌∙◌, length}
+use Rattle.std.proofs.Common.{◌∙◌}
 use Rattle.pd_model.specs.Text.{call_text}
-use Rattle.task_text.proofs.LineLaw.{line_next, lines_done}
+use Rattle.task_text.proofs.LineLaw.{line_next}
 use Rattle.task_text.proofs.report.push_actions.Goals as goal
 
 pub loop-a-preserved : goal.loop-a-preserved
@@ -8,8 +8,3 @@ loop-a-preserved c =
     c.loop-a.invariant
     ∙ line_next (call_text c.args.p.now) c.args.g.now.calls c.loop-a.a c.call.result.now c.loop-a.text.items c.push_line_start.new.text.items c.push_call.new.text.items c.extend_from_slice.new.self.items
     c.call.ensures c.in_ok-push_line_start.ensures c.in_ok-push_call.ensures c.in_ok-extend_from_slice.ensures.items
-
-pub returns : goal.returns
-returns c =
-    let past : length c.args.g.now.calls ≤ c.loop-a.a = let e = c.requires in let h = c.loop-a-test.false in omega (arith, e, h) in
-    lines_done (call_text c.args.p.now) c.args.g.now.calls c.loop-a.a c.args.text.now.items c.loop-a.text.items past c.loop-a.invariant

@@ -1,4 +1,4 @@
-use Rattle.std.proofs.Common.{arith, ◌≤◌, ◌∙◌, length}
+use Rattle.std.proofs.Common.{◌∙◌}
 use Rattle.gt_core.specs.Published.{order_of}
 use Rattle.task_text.specs.Text.{placed}
 use Rattle.task_text.proofs.LineLaw.{line_next, lines_done}
@@ -12,5 +12,4 @@ loop-place-preserved c =
 
 pub returns : goal.returns
 returns c =
-    let past : length (order_of c.args.order.now) ≤ c.loop-place.place = let e = c.actions-place-end.ensures in let h = c.loop-place-test.false in omega (arith, e, h) in
-    lines_done (placed c.args.p.now c.args.g.now c.args.order.now) (order_of c.args.order.now) c.loop-place.place c.args.text.now.items c.loop-place.text.items past c.loop-place.invariant
+    lines_done (placed c.args.p.now c.args.g.now c.args.order.now) (order_of c.args.order.now) c.loop-place.place _ c.args.text.now.items c.loop-place.text.items c.actions-place-end.ensures c.loop-place-test.false c.loop-place.invariant

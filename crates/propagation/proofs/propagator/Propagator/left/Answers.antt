@@ -26,7 +26,8 @@ read c = c.clause-clause.ensures ∙ sym (clause_is c.self.inside.tables.store c
 pub clause-clause-requires : goal.clause-clause-requires
 clause-clause-requires c =
     let w = c.self.inside in
-    let inside = kept_in w.tables.kept.items c.args.number (is_pending (has_literal (literals w.trail.entries)) (clause_at w.tables.store c.args.number)) (asks (goal.at.clause-clause-requires c).After-assignment-assignment) in
+    let inside = kept_in w.tables.kept.items c.args.number (is_pending (has_literal (literals w.trail.entries)) (clause_at w.tables.store c.args.number))
+    (asks (goal.at.clause-clause-requires c).After-assignment-assignment) in
     omega (arith, inside, c.self.invariant.0.tables.kept)
 
 pub status_of-requires : goal.status_of-requires

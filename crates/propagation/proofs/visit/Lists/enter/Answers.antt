@@ -68,7 +68,8 @@ returns-clause-ask c h =
     let k = c.args.clause.now in
     let two = c.latest_two-two.ensures in
     let e = entered (goal.at.returns-clause-ask c).After-link_two in
-    let off : is_free (has_literal trail) (get_or k c.latest_two-two.result.second 0) ≡ false = false_past trail (get_or k c.latest_two-two.result.second 0) c.latest_two-two.result.second_until two.second_until.lasts h in
+    let off : is_free (has_literal trail) (get_or k c.latest_two-two.result.second 0) ≡ false =
+    false_past trail (get_or k c.latest_two-two.result.second 0) c.latest_two-two.result.second_until two.second_until.lasts h in
     inr (record {
       place = c.latest_two-two.result.first;
       inside = two.first_in;
