@@ -1,22 +1,16 @@
 use Rattle.std.proofs.Common.{refl}
 use Rattle.plan_tasks.specs.Stepping.{places_by}
-use Rattle.plan_tasks.specs.Tasks.{StopsTask}
-use Rattle.judge_top.specs.Answers.{not_ready, ready, too_large, model, TellsTooMany}
-use Rattle.judge_top.proofs.Handed.{handed}
+use Rattle.judge_top.specs.Answers.{ready, too_large, model, TellsTooMany}
+use Rattle.judge_top.proofs.Handed.{handed, files_handed, task_handed}
 use Rattle.judge_top.proofs.Formulas.{calls_below}
 use Rattle.judge_top.proofs.answer.answer_model.Goals as goal
 
 pub returns-in_err-ready-clause-ended : goal.returns-in_err-ready-clause-ended
-returns-in_err-ready-clause-ended g c =
-    handed (StopsTask c.args.domain.now c.args.problem.now) _ (λ end h. not_ready end h refl)
-    c.in_err-ready.field-0.0 c.from_residual.result c.from_residual.ensures.1 c.in_err-ready.ensures.stops
+returns-in_err-ready-clause-ended g c = files_handed _ _ _ _ _ c.from_residual.ensures.1 c.in_err-ready.ensures.stops
 
 pub returns-in_err-told-clause-ended : goal.returns-in_err-told-clause-ended
 returns-in_err-told-clause-ended g c =
-    let r = c.in_ok-ready.ready in
-    handed (TellsTooMany (places_by c.args.steps) c.args.horizon r.grounded.task) _
-    (λ end h. ready r.task r.grounded c.in_ok-ready.ensures.task c.in_ok-ready.ensures.ready (too_large end h refl))
-    c.in_err-told.field-0.0 c.from_residual-in_err-told.result c.from_residual-in_err-told.ensures.1 (rw c.task.ensures at c.in_err-told.ensures.stops)
+    task_handed _ _ _ _ _ c.in_ok-ready.ensures.task c.in_ok-ready.ensures.ready (TellsTooMany (places_by c.args.steps) c.args.horizon c.in_ok-ready.ready.grounded.task) (λ end h. too_large end h refl) _ _ c.from_residual-in_err-told.ensures.1 (rw c.task.ensures at c.in_err-told.ensures.stops)
 
 pub ended_told-requires : goal.ended_told-requires
 ended_told-requires g c =
