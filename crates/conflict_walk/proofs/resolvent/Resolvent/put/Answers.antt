@@ -56,20 +56,24 @@ overflow_add-self c =
     let few = count_small w (seen w (marks a)) (seen w (marks a)) refl (over a).over in
     omega (arith, few, c.entries-known.ensures.small)
 
-pub returns-then-is_current-clause-put : goal.returns-then-is_current-clause-put
-returns-then-is_current-clause-put c = let a = goal.at.returns-then-is_current-clause-put c in more a.After-set_bit (there a.After-has_mark) (over a.After-has_mark)
-
-pub returns-else-is_current-clause-put : goal.returns-else-is_current-clause-put
-returns-else-is_current-clause-put c = let a = goal.at.returns-else-is_current-clause-put c in more a.After-set_bit (there a.After-has_mark) (over a.After-has_mark)
-
 pub returns-then-is_current-clause-over : goal.returns-then-is_current-clause-over
 returns-then-is_current-clause-over c =
     let a = (goal.at.returns-then-is_current-clause-over c).After-has_mark in
     let now = current (goal.at.returns-then-is_current-clause-over c).After-is_current true c.if-is_current.true in
     put_over c.args.trail.now (marks a) _ _ c.position-position.result c.args.lit true (there a) (over a) c.requires.is_false (mark a false c.if-has_mark.false) c.set_bit.ensures.len c.set_bit.ensures.has now (omega arith)
 
+pub returns-then-is_current-clause-put : goal.returns-then-is_current-clause-put
+returns-then-is_current-clause-put c =
+    let a = (goal.at.returns-then-is_current-clause-put c).After-has_mark in
+    more (goal.at.returns-then-is_current-clause-put c).After-set_bit (there a) (over a)
+
 pub returns-else-is_current-clause-over : goal.returns-else-is_current-clause-over
 returns-else-is_current-clause-over c =
     let a = (goal.at.returns-else-is_current-clause-over c).After-has_mark in
     let now = current (goal.at.returns-else-is_current-clause-over c).After-is_current false c.if-is_current.false in
     put_over c.args.trail.now (marks a) _ _ c.position-position.result c.args.lit false (there a) (over a) c.requires.is_false (mark a false c.if-has_mark.false) c.set_bit.ensures.len c.set_bit.ensures.has now (omega arith)
+
+pub returns-else-is_current-clause-put : goal.returns-else-is_current-clause-put
+returns-else-is_current-clause-put c =
+    let a = (goal.at.returns-else-is_current-clause-put c).After-has_mark in
+    more (goal.at.returns-else-is_current-clause-put c).After-set_bit (there a) (over a)
