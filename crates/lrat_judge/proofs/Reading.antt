@@ -1,5 +1,5 @@
 -- A judge that has read a text reads on.
-use Rattle.std.proofs.Common.{arith, ◌≡◌, ◌+◌, ◌-◌, ◌==◌, ℕ, List, [], ◌∷◌, ◌++◌, length, Bool, true, false, Option, Some, None, refl, sym, ap, ◌∙◌, subst, length-append, append-nil, append_assoc}
+use Rattle.std.proofs.Common.{arith, ◌≡◌, ◌+◌, ◌-◌, ◌==◌, ℕ, List, [], ◌∷◌, ◌++◌, length, Bool, true, false, Option, Some, None, refl, sym, ap, ◌∙◌, subst, append-nil}
 use Rattle.std.specs.List.{list_any}
 use Rattle.std.proofs.lemmas.Bool.{eq-eqb}
 use Rattle.clause_base.specs.Formula.{Cnf}
@@ -11,7 +11,8 @@ use Rattle.lrat_judge.specs.Verdicts.{Outcome, Ends, Goes, outcome_known, outcom
 use Rattle.lrat_judge.specs.Reached.{IsBefore, Comes, HasRead, has_no_end}
 use Rattle.lrat_judge.specs.declared.verdict.Verdict.{Verdict}
 use Rattle.lrat_judge.specs.declared.verdict.Verdict.TheVariants.{More, Refuted, Rejected, NotEmpty, Syntax}
-use Rattle.lrat_text.proofs.Texts.{lines_on, last_on, lines_same, last_more}
+use Rattle.lrat_text.proofs.Texts.{last_on, last_more}
+use Rattle.lrat_text.proofs.Pieces as pieces
 
 -- no line ends the judging with a verdict by which it goes on
 ends_apart : (formula : Cnf) (known : Known) (at count : ℕ) (line : Option LineView) → outcome_line formula known at count line ≡ Ends More → ⊥
@@ -41,10 +42,7 @@ module _ (judge next : Judged) (text end : List ℕ) (read : HasRead judge text)
   -- judging the text up to that end, and lines after it, goes by what the line comes to
   leads_on : (others : List ℕ) (more : List (List ℕ)) → judged judge.formula (known_first judge.formula) 0 0 (whole_lines (text ++ (end ++ 10 ∷ others)) ++ more)
       ≡ step (whole_lines others ++ more) (outcome_line judge.formula read.known read.at read.count (line_of line))
-  leads_on others more =
-      ap (λ (ls : List (List ℕ)). judged judge.formula (known_first judge.formula) 0 0 (ls ++ more)) (lines_on text end others none)
-      ∙ ap (judged judge.formula (known_first judge.formula) 0 0) (append_assoc (whole_lines text) (line ∷ whole_lines others) more)
-      ∙ read.leads (line ∷ (whole_lines others ++ more))
+  leads_on others more = pieces.leads_on (judged judge.formula (known_first judge.formula) 0 0) (judged judge.formula read.known read.at read.count) text read.leads end others more none
 
   -- a verdict that ends the judging is that on the text, whatever follows
   pub ended : (others : List ℕ) → (verdict ≡ More → ⊥) → verdict ≡ verdict_so_far judge.formula (text ++ (end ++ 10 ∷ others))
@@ -64,20 +62,14 @@ module _ (judge next : Judged) (text end : List ℕ) (read : HasRead judge text)
       by : (outcome : Outcome) → outcome_line judge.formula read.known read.at read.count (line_of line) ≡ outcome → Comes outcome verdict next (read.at + length line + 1) (read.count + 1) → HasRead next (text ++ (end ++ 10 ∷ []))
       by (Ends said) is c = absurd (ends_apart judge.formula read.known read.at read.count (line_of line) (is ∙ ap Ends (sym c ∙ more)))
       by (Goes known) is c =
-          let last : last_part (text ++ (end ++ 10 ∷ [])) ≡ [] = last_on text end [] none in
-          let l1 : length (text ++ (end ++ 10 ∷ [])) ≡ length text + length (end ++ 10 ∷ []) = length-append text (end ++ 10 ∷ []) in
-          let l2 : length (end ++ 10 ∷ []) ≡ length end + 1 = length-append end (10 ∷ []) in
-          let l3 : length line ≡ length (last_part text) + length end = length-append (last_part text) end in
-          let l4 : length (last_part (text ++ (end ++ 10 ∷ []))) ≡ 0 = ap (λ (t : List ℕ). length t) last in
-          let l5 = read.begins in
           record {
             known = known;
             at = read.at + length line + 1;
             count = read.count + 1;
             before = c.1;
             leads = λ more. subst (λ (f : Cnf). judged f (known_first f) 0 0 (whole_lines (text ++ (end ++ 10 ∷ [])) ++ more) ≡ judged f known (read.at + length line + 1) (read.count + 1) more) (sym same) (leads_on [] more ∙ ap (step more) is);
-            front = empty ∙ sym last;
-            begins = omega (arith, l1, l2, l3, l4, l5);
+            front = empty ∙ sym (last_on text end [] none);
+            begins = pieces.begins_on read.at text read.begins end none;
           }
 
 -- a judge that has read a text holds a rest more, in which no line ends
@@ -88,12 +80,9 @@ held_on judge next text rest read none is = subst (λ (j : Judged). HasRead j (t
   at = read.at;
   count = read.count;
   before = record { stands = read.before.stands; at_is = read.before.at_is; count_is = read.before.count_is };
-  leads = λ more. ap (λ (ls : List (List ℕ)). judged judge.formula (known_first judge.formula) 0 0 (ls ++ more)) (lines_same text rest none) ∙ read.leads more;
+  leads = λ more. pieces.leads_same (judged judge.formula (known_first judge.formula) 0 0) (judged judge.formula read.known read.at read.count) text read.leads rest more none;
   front = ap (λ (t : List ℕ). t ++ rest) read.front ∙ sym (last_more text rest none);
-  begins =
-      let l1 : length (text ++ rest) ≡ length text + length rest = length-append text rest in
-      let l2 : length (last_part (text ++ rest)) ≡ length (last_part text) + length rest = ap (λ (t : List ℕ). length t) (last_more text rest none) ∙ length-append (last_part text) rest in
-      let l3 = read.begins in omega (arith, l1, l2, l3);
+  begins = pieces.begins_same read.at text read.begins rest none;
 })
 
 -- where a judge goes on nothing is decided yet

@@ -1,5 +1,5 @@
 -- What a judge knows of a proof.
-use Rattle.std.specs.Prelude.{◌≡◌, ℕ, List, length, min, true}
+use Rattle.std.specs.Prelude.{◌≡◌, ℕ, List, length, true}
 use Rattle.std.specs.List.{list_any}
 use Rattle.clause_base.specs.Formula.{Cnf}
 use Rattle.clause_base.specs.Derivation.{IsDerivation, learns_empty}

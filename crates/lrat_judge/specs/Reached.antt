@@ -1,6 +1,5 @@
 -- How far a judge has come in a text.
-use Rattle.std.specs.Prelude.{◌≡◌, ◌==◌, not, ℕ, ◌+◌, List, ◌++◌, length, Bool, true, false, Option, Some, None}
-use Rattle.std.specs.List.{list_all}
+use Rattle.std.specs.Prelude.{◌≡◌, ℕ, ◌+◌, List, ◌++◌, length, Bool, true, false, Option, Some, None}
 use Rattle.clause_base.specs.declared.log.Entry.{Entry}
 use Rattle.rup_check.specs.Taken.{CheckerView, HasTaken}
 use Rattle.lrat_judge.specs.Judged.{Judged, counted}
