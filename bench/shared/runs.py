@@ -1,5 +1,5 @@
 """Runs of a program, measured: what scripts of all folders share. In each stands a link to this file, so that they import it."""
-import ctypes, os, pathlib, signal, subprocess, sys, tempfile, threading, time
+import ctypes, os, pathlib, re, signal, subprocess, sys, tempfile, threading, time
 from typing import NamedTuple
 
 CRATES = pathlib.Path(__file__).resolve().parents[2] / "crates"
@@ -19,15 +19,15 @@ class Run(NamedTuple):
     def short(self):
         return f"{self.seconds:.2f} s, of which {self.own:.2f} s its own, {self.memory:.0f} MB"
 
-def measured(words, folder=".", limit=None, processors=None):
-    """Runs the words, for at most `limit` seconds, on these processors alone where some are given. A shell starts the
-    program, hands it over to this script and ends before it begins: what a child of this script used at most would begin
-    with the script's own memory."""
+def measured(words, folder=".", limit=None, processors=None, rules=None):
+    """Runs the words, for at most `limit` seconds, on these processors alone where some are given, with variables of the
+    environment besides. A shell starts the program, hands it over to this script and ends before it begins: what a child of
+    this script used at most would begin with the script's own memory."""
     ctypes.CDLL(None).prctl(BECOME_PARENT_OF_ORPHANS, 1, 0, 0, 0)
     with tempfile.TemporaryDirectory() as room:
         out, err, gate = (pathlib.Path(room, name) for name in ("out", "err", "gate"))
         os.mkfifo(gate)
-        env = dict(os.environ, OUT=str(out), ERR=str(err), GATE=str(gate))
+        env = dict(os.environ, **(rules or {}), OUT=str(out), ERR=str(err), GATE=str(gate))
         narrow = (lambda: os.sched_setaffinity(0, processors)) if processors else None
         shell = ["sh", "-c", START, "sh", *map(str, words)]
         child = int(subprocess.run(shell, cwd=folder, env=env, stdout=subprocess.PIPE, check=True, preexec_fn=narrow).stdout)
@@ -53,6 +53,11 @@ def planner(name=None):
     if not program.exists():
         sys.exit(f"no program {program}: ./plan-build makes one")
     return program
+
+def launched():
+    """The variables for the C library that the launcher sets for the program."""
+    line = re.search(r"export (MALLOC_.*)", (CRATES.parent / "launch/ready.sh").read_text())
+    return dict(word.split("=") for word in line[1].split())
 
 def built(crate, *words):
     """The program of a crate, which is proved and built where it is not; it is run with the words."""
