@@ -46,6 +46,8 @@ def matched(pattern, it, by):
         return True
     if it[0] == "number" and key in PLAIN:
         return True
+    if it[0] in ("Arc", "Box") and key != it[0]:    # lent as what it holds
+        return matched(pattern, item(it), by)
     return key == it[0] and all([matched(mine, its, by) for mine, its in zip(arguments, it[1])])
 
 # What calls of the toolchain's libraries answer, by the type that they are made on.
