@@ -46,6 +46,11 @@ def why_it_stays(edit):
     found = re.search(r"^stays: (.*)$", edit.read_text(), re.M)
     return found.group(1) if found else ""
 
+def clause_of(edit):
+    """The clause that a body is written against, where its file names one."""
+    found = re.search(r"^clause: (\w+)$", edit.read_text(), re.M)
+    return found.group(1) if found else ""
+
 @functools.cache
 def reason(edit):
     """What a reader of a body says of it, in its file: why no clause can refuse it, what it breaks, or that it does the same."""
