@@ -48,15 +48,25 @@ def batches(make, limit):
     """Batches of lamps in both orders, of files that are too long, and of a task whose formula is past the limit."""
     files = {"d": LAMP, "p": OFF, "q": ON, "r": NEVER}
     for order in ([], ["--turns", "backward"]):
-        for names in ("p q r", "q p", "p q p r"):
+        for names in ("p", "p q r", "q p", "p q p r"):
             yield make.input(f"batch of lamps {names} {' '.join(order)}".strip(), ["batch", "d", *names.split(), *order], files)
     for shows, longs in (("the domain and a problem", "dp"), ("the first problem", "p"), ("the domain and the second problem", "dq")):
         these = {name: text + (LONG if name in longs else "") for name, text in files.items()}
         yield make.input(f"batch of files that are too long: {shows}", ["batch", "d", "p", "q"], these)
+    refused = {"d": LAMP[:-1], "p": OFF + LONG, "q": ON}
+    yield make.input("batch of a refused domain and a problem that is too long", ["batch", "d", "p", "q"], refused)
     words = ["batch", "d", "p", "p", "--alg", "c", "--start", "255", "--max-horizon", "255"]
     yield make.input("batch past the limit on literals", words, {"d": limit[0], "p": limit[1]})
 
+def plain_words(make, tasks):
+    """Words without options, and with one: certificates, a plan that has steps without actions, and a horizon without a plan."""
+    domain, problem, _ = tasks["gripper/p04"]
+    for horizon in ("0", "1", "2", "3"):
+        yield make.input(f"prove gripper/p04 {horizon} by the words alone", ["prove", "d", "p", horizon], {"d": domain, "p": problem})
+    yield make.input("plan of the lamp in three steps", ["plan", "d", "p", "--alg", "c", "--start", "3"], {"d": LAMP, "p": OFF})
+    yield make.input("plan of no horizon, with one option", ["plan", "d", "p", "--max-horizon", "0"], {"d": LAMP, "p": NEVER})
+
 def by_clauses(make, tasks, limit):
     """All of them."""
-    for some in (proofs(make), as_many(make, tasks), checks(make), batches(make, limit)):
+    for some in (proofs(make), as_many(make, tasks), checks(make), batches(make, limit), plain_words(make, tasks)):
         yield from some
