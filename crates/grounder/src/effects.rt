@@ -90,7 +90,7 @@ fn effects_in(alloc: Global, all: Vec<Keyed>) -> Result<Effs, Memory>
 {
     let mut effects = Vec::with_capacity(alloc, all.len())?;
     for key in all {
-        effects.push(Eff::new(Lits::of(key.condition), key.literal))?;
+        effects.push(Eff::new(alloc, Lits::of(key.condition), key.literal)?)?;
     }
     Ok(Effs::of(effects))
 }
