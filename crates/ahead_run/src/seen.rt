@@ -75,12 +75,20 @@ impl AheadRun {
         self.settled_run().values(alloc)
     }
 
-    /// The mark of a refuted run: its log, checked. The marked formula has no model.
-    pub fn certify(&self, alloc: Global) -> Result<Checked, Memory>
-        requires { self.now.state.standing ≡ Standing.Refuted }
-        ensures certified { IfOk result (λ checked. Certifies checked self.now.formula self.now.state.log) }
-        ensures refutation { IsRefutation self.now.formula.variables self.now.formula.clauses self.now.state.log }
+    /// The mark of a refuted run: its log, checked, by the worker that advanced it where there was memory. The marked formula has
+    /// no model.
+    pub fn certify(self, alloc: Global) -> Result<Checked, Memory>
+        requires { self.state.standing ≡ Standing.Refuted }
+        ensures certified { IfOk result (λ checked. Certifies checked self.formula self.state.log) }
+        ensures refutation { IsRefutation self.formula.variables self.formula.clauses self.state.log }
     {
-        self.settled_run().certify(alloc)
+        // For the proof: a run that is seen as refuted is where its solver is, and its log refutes the formula.
+        let _refuted = self.standing();
+        let _settled = self.settled_run();
+        let mut ahead = self;
+        match ahead.mark.take() {
+            Some(mark) => Ok(mark),
+            None => ahead.run.certify(alloc),
+        }
     }
 }
