@@ -82,9 +82,8 @@ impl AheadRun {
         ensures certified { IfOk result (λ checked. Certifies checked self.formula self.state.log) }
         ensures refutation { IsRefutation self.formula.variables self.formula.clauses self.state.log }
     {
-        // For the proof: a run that is seen as refuted is where its solver is, and its log refutes the formula.
-        let _refuted = self.standing();
-        let _settled = self.settled_run();
+        // For the proof: a run whose solver is ahead goes on, so this one's is not.
+        let _ahead = is_ahead(&self.run, self.granted);
         let mut ahead = self;
         match ahead.mark.take() {
             Some(mark) => Ok(mark),

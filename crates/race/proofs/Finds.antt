@@ -25,18 +25,6 @@ found-here [] i r at f = cc
 found-here (x ∷ rs) zero r at f = let same : x ≡ r = cc in let g : is_found x.state.standing ≡ true = rw same f in rw g refl
 found-here (x ∷ rs) (suc i) r at f = found-here rs i r at f
 
-past : {X : Type 0} (xs : List X) (i : ℕ) → length xs ≤ i → drop i xs ≡ []
-past [] zero l = refl
-past [] (suc i) l = refl
-past (x ∷ xs) zero l = absurd (omega arith)
-past (x ∷ xs) (suc i) l = past xs i (omega arith)
-
-next-line : (line : Line) (rs : List RunView) (i : ℕ) (r : RunView) → slice_get rs i ≡ Some r → line_view line ≡ open_line (live_run_of r)
-    → line_view line ∷ map open_line (map live_run_of (drop (suc i) rs)) ≡ map open_line (map live_run_of (drop i rs))
-next-line line [] i r at is = cc
-next-line line (x ∷ rs) zero r at is = let same : r ≡ x = cc in ap (λ (e : LineView). e ∷ map open_line (map live_run_of rs)) (is ∙ ap (λ (y : RunView). open_line (live_run_of y)) same)
-next-line line (x ∷ rs) (suc i) r at is = next-line line rs i r at is
-
 told-open : (rs : List LiveRun) → conflicts_in (map open_line rs) ≡ conflicts_used rs
 told-open [] = refl
 told-open (r ∷ rs) = ap (λ (n : ℕ). r.state.conflicts + n) (told-open rs)
@@ -45,23 +33,23 @@ told-append : (es fs : List LineView) → conflicts_in (es ++ fs) ≡ conflicts_
 told-append [] fs = omega arith
 told-append (e ∷ es) fs = let h = told-append es fs in omega (arith, h)
 
--- one more line
-pub line-next : (ls ls' : List Line) (line : Line) (rs : List RunView) (i : ℕ) (r : RunView) → slice_get rs i ≡ Some r → ls' ≡ ls ++ line ∷ []
+-- one more line, of the first of the runs that are left
+pub line-next : (ls ls' : List Line) (line : Line) (old rest : List RunView) (r : RunView) → old ≡ r ∷ rest → ls' ≡ ls ++ line ∷ []
     → line_view line ≡ open_line (live_run_of r)
-    → map line_view ls' ++ map open_line (map live_run_of (drop (suc i) rs)) ≡ map line_view ls ++ map open_line (map live_run_of (drop i rs))
-line-next ls ls' line rs i r at pushed is =
-    ap (λ (xs : List Line). map line_view xs ++ map open_line (map live_run_of (drop (suc i) rs))) pushed
-    ∙ (ap (λ (xs : List LineView). xs ++ map open_line (map live_run_of (drop (suc i) rs))) (map-append line_view ls (line ∷ []))
-    ∙ (append_assoc (map line_view ls) (line_view line ∷ []) (map open_line (map live_run_of (drop (suc i) rs)))
-    ∙ ap (λ (xs : List LineView). map line_view ls ++ xs) (next-line line rs i r at is)))
+    → map line_view ls' ++ map open_line (map live_run_of rest) ≡ map line_view ls ++ map open_line (map live_run_of old)
+line-next ls ls' line old rest r at pushed is =
+    ap (λ (xs : List Line). map line_view xs ++ map open_line (map live_run_of rest)) pushed
+    ∙ (ap (λ (xs : List LineView). xs ++ map open_line (map live_run_of rest)) (map-append line_view ls (line ∷ []))
+    ∙ (append_assoc (map line_view ls) (line_view line ∷ []) (map open_line (map live_run_of rest))
+    ∙ (ap (λ (e : LineView). map line_view ls ++ e ∷ map open_line (map live_run_of rest)) is
+    ∙ ap (λ (rs : List RunView). map line_view ls ++ map open_line (map live_run_of rs)) (sym at))))
 
 pub lines-next : (input : RaceInput) (ls ls' : List Line) (line : Line) → ls' ≡ ls ++ line ∷ [] → AllByRecursion (IsLine input) ls → IsLine input line
     → AllByRecursion (IsLine input) ls'
 lines-next input ls ls' line pushed a one = subst (AllByRecursion (IsLine input)) (sym pushed) (all-push (IsLine input) ls line a one)
 
-pub lines-end : (ls : List Line) (rs : List RunView) (i : ℕ) → length rs ≤ i
-    → map line_view ls ++ map open_line (map live_run_of (drop i rs)) ≡ map line_view ls
-lines-end ls rs i l = ap (λ (xs : List RunView). map line_view ls ++ map open_line (map live_run_of xs)) (past rs i l) ∙ append-nil _
+pub lines-end : (ls : List Line) (rs : List RunView) → rs ≡ [] → map line_view ls ++ map open_line (map live_run_of rs) ≡ map line_view ls
+lines-end ls rs none = ap (λ (xs : List RunView). map line_view ls ++ map open_line (map live_run_of xs)) none ∙ append-nil _
 
 -- the lines of a race have as many conflicts as the race
 pub told-lines : (race : RaceState) → conflicts_in (lines race) ≡ spent race

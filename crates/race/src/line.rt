@@ -61,8 +61,8 @@ pub(crate) fn ended(alloc: Global, run: AheadRun) -> Result<Line, Memory>
     ensures told { IfOk result (λ line. line_view line ≡ passed_line (live_run_of run)) }
     ensures line { IfOk result (λ line. IsLine input line) }
 {
-    match run.standing() {
-        Standing::Refuted => refuted(alloc, run),
-        _ => Ok(line_of(&run, LineEnd::Dropped)),
+    if !matches!(run.standing(), Standing::Refuted) {
+        return Ok(line_of(&run, LineEnd::Dropped));
     }
+    refuted(alloc, run)
 }
