@@ -151,9 +151,10 @@ fn settles<R: Seen, H: Wait + RandomSource + AllocGlobal + Abort>(
     let end = settle(&mut BlockOn::new(rt), run, target, 1)
         .ok()
         .expect(rt, "a run");
-    let goes = matches!(wanted, Standing::Going);
     let is = end.is_at(rt.alloc(), conflicts, wanted);
-    holds(rt, is && (goes || end.is_certified(rt.alloc())));
+    let is_refuted = matches!(wanted, Standing::Refuted);
+    let is_certified = end.is_certified(rt.alloc());
+    holds(rt, is && is_certified == is_refuted);
 }
 
 // With units, the first conflict refutes the run of no step; without, it stays as it is.
