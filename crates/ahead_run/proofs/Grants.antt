@@ -1,17 +1,16 @@
 -- What the state of a solver tells of the state that the granted conflicts lead to.
-use Rattle.std.proofs.Common.{arith, ◌≡◌, ℕ, ◌+◌, ◌-◌, ◌<◌, ◌≤◌, Bool, true, false, true≢false, refl, sym, ap, ◌∙◌, subst, Option, Some, None, if◌then◌else◌}
+use Rattle.std.proofs.Common.{arith, ◌≡◌, ℕ, ◌+◌, ◌-◌, ◌<◌, ◌≤◌, Bool, true, false, true≢false, refl, sym, ap, ◌∙◌, subst, Option, if◌then◌else◌}
 use Rattle.clause_base.specs.Choice.{Known}
 use Rattle.clause_base.specs.Formula.{Cnf}
 use Rattle.cdcl_rules.specs.declared.standing.Standing.{Standing}
 use Rattle.cdcl_rules.specs.declared.standing.Standing.TheVariants.{Going, Found, Refuted}
 use Rattle.cdcl_rules.specs.Run.{start_of, after, is_going}
 use Rattle.cdcl_rules.specs.State.{State}
-use Rattle.rup_check.specs.Certificate.{Stamp, Certifies}
 use Rattle.goal_choice.specs.Means.{Means}
 use Rattle.goal_choice.specs.Choice.{choice_by}
 use Rattle.horizon_run.specs.Run.{RunView, choice_in, moved_to, reached, AddsUp, IsMoved, IsReached, Stays}
 use Rattle.horizon_run.specs.Resume.{origin}
-use Rattle.ahead_run.specs.Seen.{seen_of, IsMarked}
+use Rattle.ahead_run.specs.Seen.{seen_of, IsBehind}
 
 going-of : (s : Standing) → is_going s ≡ true → s ≡ Going
 going-of Going e = refl
@@ -176,19 +175,13 @@ pub same-origin : (r n : RunView) → n.formula ≡ r.formula → n.means ≡ r.
 same-origin r n formula means i =
     record { formula = formula i; means = means i; state = start_of (formula i); granted = 0; spoilt = false }
 
--- a refuted run that is granted more stays where it is
-pub refuted_stays : (r n : RunView) (k : ℕ) → (r.spoilt ≡ false → IsMoved r) → Stays (choice_in r) r.formula → r.spoilt ≡ false → n ≡ moved_to r (r.granted + k)
-    → r.state.standing ≡ Refuted → n.state ≡ r.state
-refuted_stays r n k moved settled sane is refuted =
-    let there : r.state ≡ reached (choice_in r) r.formula r.granted = ap (λ (v : RunView). v.state) (moved sane) in
-    let ended : is_going (reached (choice_in r) r.formula r.granted).standing ≡ false = ap (λ (s : State). is_going s.standing) (sym there) ∙ ap is_going refuted in
-    ap (λ (v : RunView). v.state) is ∙ settled r.granted k ended ∙ sym there
+-- a run that is seen as refuted is seen where its solver is
+pub settled_state : (ahead : Bool) (r now : RunView) (g : ℕ) → seen_of r g ≡ now → now.state.standing ≡ Refuted → (ahead ≡ true → IsBehind r g)
+    → (ahead ≡ false → (seen_of r g).state ≡ r.state) → r.state ≡ now.state
+settled_state true r now g view refuted behind caught =
+    let clash : Going ≡ Refuted = sym (behind refl).going ∙ (ap (λ (v : RunView). v.state.standing) view ∙ refuted) in cc
+settled_state false r now g view refuted behind caught = sym (caught refl) ∙ ap (λ (v : RunView). v.state) view
 
--- so its mark is that of its log
-pub keeps_mark : (r n : RunView) (mark : Option Stamp) → n.formula ≡ r.formula → (r.state.standing ≡ Refuted → n.state ≡ r.state) → IsMarked r mark → IsMarked n mark
-keeps_mark r n None formula stays marked = marked
-keeps_mark r n (Some m) formula stays marked =
-    let same = stays marked.0 in (
-      ap (λ (s : State). s.standing) same ∙ marked.0,
-      subst (λ (f : Cnf). Certifies m f n.state.log) (sym formula) (subst (λ (s : State). Certifies m r.formula s.log) (sym same) marked.1),
-    )
+-- what holds of the formula and the state of its solver holds of those that are seen there
+pub state-seen : (P : Cnf → State → Type 0) (r now : RunView) (g : ℕ) → seen_of r g ≡ now → r.state ≡ now.state → P r.formula r.state → P now.formula now.state
+state-seen P r now g view state p = subst (λ (y : Cnf × State). P y.0 y.1) (λ i. (now-formula r now g view i, state i)) p

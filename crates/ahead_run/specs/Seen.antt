@@ -1,5 +1,5 @@
 -- The run of a horizon that may be ahead of its grants, and what clients see of it.
-use Rattle.std.specs.Prelude.{◌≡◌, ◌×◌, ℕ, false, ◌≤◌, if◌then◌else◌, Option, IfSome}
+use Rattle.std.specs.Prelude.{◌≡◌, ℕ, false, ◌≤◌, if◌then◌else◌, Option, IfSome}
 use Rattle.cdcl_rules.specs.declared.standing.Standing.TheVariants.{Going, Refuted}
 use Rattle.rup_check.specs.Certificate.{Stamp, Certifies}
 use Rattle.horizon_run.specs.Run.{RunView, moved_to}

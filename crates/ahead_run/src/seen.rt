@@ -82,12 +82,12 @@ impl AheadRun {
         ensures certified { IfOk result (λ checked. Certifies checked self.formula self.state.log) }
         ensures refutation { IsRefutation self.formula.variables self.formula.clauses self.state.log }
     {
+        let mut run = self;
         // For the proof: a run whose solver is ahead goes on, so this one's is not.
-        let _ahead = is_ahead(&self.run, self.granted);
-        let mut ahead = self;
-        match ahead.mark.take() {
+        let _ahead = is_ahead(&run.run, run.granted);
+        match run.mark.take() {
             Some(mark) => Ok(mark),
-            None => ahead.run.certify(alloc),
+            None => run.run.certify(alloc),
         }
     }
 }
