@@ -3,14 +3,18 @@ use Rattle.std.specs.List.{AllByRecursion}
 use Rattle.std.proofs.lemmas.List.{map-append}
 use Rattle.cdcl_rules.specs.declared.standing.Standing.{Standing}
 use Rattle.cdcl_rules.specs.declared.standing.Standing.TheVariants.{Going, Found, Refuted}
-use Rattle.horizon_run.specs.Run.{RunView}
+use Rattle.cdcl_rules.specs.State.{State}
+use Rattle.clause_base.specs.Formula.{Cnf}
+use Rattle.rup_check.specs.Certificate.{Stamp, Certifies}
+use Rattle.horizon_run.specs.Run.{RunView, choice_in, reached}
 use Rattle.race.specs.Found.{first_found, is_found, open_line, lines}
 use Rattle.race.specs.Input.{RaceInput}
 use Rattle.race.specs.Lines.{IsLine}
-use Rattle.race.specs.Runs.{live_run_of}
+use Rattle.race.specs.Runs.{live_run_of, IsRunOf}
 use Rattle.race.specs.State.{RaceState, LiveRun, conflicts_used, spent}
 use Rattle.race_end.specs.Ends.{LineView, conflicts_in, line_view}
 use Rattle.race_end.specs.declared.line.Line.{Line}
+use Rattle.race_end.specs.declared.line.LineEnd.TheVariants as ends
 use Rattle.race.proofs.Starts.{all-push}
 
 pub found-is : (s : Standing) → is_found s ≡ true → s ≡ Found
@@ -54,3 +58,20 @@ lines-end ls rs none = ap (λ (xs : List RunView). map line_view ls ++ map open_
 -- the lines of a race have as many conflicts as the race
 pub told-lines : (race : RaceState) → conflicts_in (lines race) ≡ spent race
 told-lines race = let h = told-append race.closed (map open_line race.live) in let k = told-open race.live in omega (arith, h, k)
+
+-- the line of a refuted run, with the mark of its log
+pub refuted-line : (input : RaceInput) (r : RunView) (h c : ℕ) (m : Stamp) → IsRunOf input r → h ≡ r.formula.name → c ≡ r.state.conflicts → r.state.standing ≡ Refuted
+    → Certifies m r.formula r.state.log → IsLine input (record { horizon = h; conflicts = c; end = ends.Refuted m })
+refuted-line input r h c m is horizon conflicts refuted certified =
+    let there : r.state ≡ reached (choice_in r) r.formula r.granted = ap (λ (v : RunView). v.state) is.moved in
+    let choose : input.choose h ≡ choice_in r = ap (λ (n : ℕ). input.choose n) horizon ∙ is.chosen in
+    let formula : input.formula h ≡ r.formula = ap (λ (n : ℕ). input.formula n) horizon ∙ is.formula in
+    let used : c ≡ (reached (choice_in r) r.formula r.granted).conflicts = conflicts ∙ ap (λ (s : State). s.conflicts) there in
+    let leads : reached (input.choose h) (input.formula h) c ≡ reached (choice_in r) r.formula (reached (choice_in r) r.formula r.granted).conflicts =
+    λ i. reached (choose i) (formula i) (used i) in
+    let state : reached (input.choose h) (input.formula h) c ≡ r.state = leads ∙ ((is.reached r.granted).again ∙ sym there) in
+    record {
+      conflicts = ap (λ (s : State). s.conflicts) state ∙ sym conflicts;
+      standing = ap (λ (s : State). s.standing) state ∙ refuted;
+      marked = subst (λ (y : Cnf × State). Certifies m y.0 y.1.log) (λ i. (sym formula i, sym state i)) certified;
+    }

@@ -1,4 +1,5 @@
-use Rattle.std.proofs.Common.{◌≡◌, ◌∷◌, [], sym, ap, ◌∙◌, rules}
+use Rattle.std.proofs.Common.{◌≡◌, ◌∷◌, [], length, sym, ap, ◌∙◌, rules}
+use Rattle.std.proofs.lemmas.List.{nil_from_length}
 use Rattle.race.specs.Tied.{race_state}
 use Rattle.race_end.specs.Ends.{conflicts_in, line_view}
 use Rattle.race.proofs.Finds.{line-next, lines-next, lines-end, told-lines}
@@ -17,7 +18,8 @@ loop-run-preserved g c =
 pub returns-clause-told : goal.returns-clause-told
 returns-clause-told g c =
     let l = c.loop-run in
-    let none : l.run-iterator.rest.items ≡ [] = search rules in
+    let empty : length l.run-iterator.rest.items ≡ 0 = search rules in
+    let none : l.run-iterator.rest.items ≡ [] = nil_from_length l.run-iterator.rest.items empty in
     ap (map line_view) c.of.ensures ∙ (sym (lines-end l.lines.items l.run-iterator.rest.items none) ∙ l.invariant.told)
 
 pub returns-clause-sums : goal.returns-clause-sums
