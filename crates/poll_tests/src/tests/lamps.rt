@@ -68,7 +68,7 @@ fn run_of<F: StepForm>(rt: &impl Abort, alloc: Global, task: &Task, form: &F, n:
     let run = HorizonRun::new(alloc, task, form, n)
         .ok()
         .expect(rt, "memory");
-    AheadRun::of(run)
+    AheadRun::of(alloc, run)
 }
 
 /// The run of a horizon of the lamp that is off.
