@@ -33,7 +33,7 @@ abbrev pub AreMarked : List ℕ → List Pair → Pending → Type 0
 AreMarked trail pairs p = (i : ℕ) → i < length pairs → has_literal trail (pair_in pairs i).other ≡ false → words_have p.numbers (pair_in pairs i).number ≡ true
 
 -- so are those of the lists of a literal that are of steps and times
-pub record AreListed (clauses : List (List ℕ)) (code : ℕ) (lists : ListsView) : Type 0 where
+pub record AreAllPairsOf (clauses : List (List ℕ)) (code : ℕ) (lists : ListsView) : Type 0 where
   pub last : ArePairsOf clauses code lists.last
   pub next : ArePairsOf clauses code lists.next
   pub time : ArePairsOf clauses code lists.time
