@@ -10,7 +10,7 @@ use Rattle.clause_base.specs.Clause.{IsClause, HasVariablesBelow, has_literal}
 use Rattle.cdcl_rules.specs.Pending.{is_pending}
 use Rattle.cdcl_rules.specs.State.{clause_at}
 use Rattle.bit_sets.specs.Layered.{words_have}
-use Rattle.clause_store.specs.declared.pair.Pair.{Pair}
+use Rattle.clause_base.specs.declared.pair.Pair.{Pair}
 use Rattle.clause_store.specs.Pairs.{IsIndex}
 use Rattle.watch_chains.specs.Linked.{IsLinked}
 use Rattle.propagation.specs.declared.given.Given.{Given}
