@@ -9,6 +9,7 @@ ghost use Rattle.propagation.specs.Visit.{IsFit, AreSlotsBelow};
 ghost use Rattle.propagation.specs.Given.{AreGiven, AreOthers, AreRising, IsBeside};
 
 use crate::pending::Pending;
+use crate::room::LEARNED;
 use crate::scan::only_ask;
 use crate::visit::Lists;
 use clause_base::clause_list::ClauseList;
@@ -62,10 +63,12 @@ fn shared_others(alloc: Global, list: &SharedList) -> Result<Others, Memory>
     others_of(alloc, list.list())
 }
 
-/// At least so many clauses of a formula have slots, if memory is to be had for them: those that have not two literals.
+/// At least so many clauses of a formula have slots, if memory is to be had for them: those that have not two literals. Beside them
+/// there is room for learned ones.
 fn room_for(horizon: u32, once: usize, step: &Others, time: &Others) -> usize {
     let steps = horizon as usize;
-    once.saturating_add(steps.saturating_mul(step.places.len()))
+    once.saturating_add(LEARNED)
+        .saturating_add(steps.saturating_mul(step.places.len()))
         .saturating_add((steps + 1).saturating_mul(time.places.len()))
 }
 
