@@ -1,6 +1,7 @@
 -- The clauses of the steps of a formula by their numbers among all clauses, and what holds of the slots of these.
-use Rattle.std.proofs.Common.{arith, ◌≡◌, ℕ, zero, suc, ◌+◌, ◌-◌, ◌*◌, ◌<◌, ◌≤◌, List, [], ◌∷◌, ◌++◌, length, get_or, Some, Option, unwrap_or, refl, sym, ap, ◌∙◌, subst, inl, inr}
+use Rattle.std.proofs.Common.{arith, ◌≡◌, ℕ, zero, suc, ◌+◌, ◌-◌, ◌*◌, ◌<◌, ◌≤◌, List, [], ◌∷◌, ◌++◌, length, get_or, Some, Option, unwrap_or, min, sym, ap, ◌∙◌, subst, inl, inr}
 use Rattle.std.specs.List.{slice_get}
+use Rattle.std.proofs.Math.Nat.{mul-le-mul_right}
 use Rattle.std.proofs.lemmas.List.{length_push, get_or_append_left}
 use Rattle.std.proofs.lemmas.Option.{slice_get-get_or, unwrap_or-slice_get}
 use Rattle.clause_base.specs.Repeats.{Repeats, all_steps, all_times, repeated}
@@ -30,7 +31,7 @@ stepped_add cl k number codes trail slots l slots' l' t taken i = record {
 
     placed : IsTaken k number codes trail slots l slots' l' → ArePlaced t.before t.part.horizon t.size t.of_slots.items slots'
     placed (inl a) = subst (λ (ss : List ℕ). ArePlaced t.before t.part.horizon t.size t.of_slots.items ss) (sym a.slots_stay) i.placed
-    placed (inr a) s h =
+    placed (inr a) = λ s h.
         let e : get_or slots' s 0 ≡ get_or slots s 0 = ap (λ (ss : List ℕ). get_or ss s 0) a.slotted ∙ get_or_append_left slots (number ∷ []) s 0 (omega (arith, h, i.long)) in
         subst (λ (n : ℕ). IsPlaced t.before t.part.horizon t.size (get_or t.of_slots.items s 0) n) (sym e) (i.placed s h)
 
@@ -69,18 +70,33 @@ steps_same told after cl r before k e b h =
 
 -- parts of one size, if there are any
 pub product_same : (n size long : ℕ) → ((k : ℕ) → k < n → size ≡ long) → n * size ≡ n * long
-product_same zero size long s = refl
+product_same zero size long s = omega arith
 product_same (suc n) size long s = ap (λ (x : ℕ). suc n * x) (s n (omega arith))
 
+-- a step has few clauses, if there is one
+pub size_same : (told after cl : List (List ℕ)) (r part : Repeats) (list : List (List ℕ)) (all size : ℕ) → cl ≡ told ++ (repeated r ++ after) → length cl ≤ 1073741824
+    → part ≡ r → list ≡ part.step → all ≡ length list → size ≡ min all 1073741824 → (k : ℕ) → k < r.horizon → size ≡ length r.step
+size_same told after cl r part list all size e few p l a z k h =
+    let once : 1 * length r.step ≤ r.horizon * length r.step = mul-le-mul_right (length r.step) (omega (arith, h)) in
+    let own : all ≡ length r.step = a ∙ ap (λ (xs : List (List ℕ)). length xs) l ∙ ap (λ (x : Repeats). length x.step) p in
+    omega (arith, once, own, z, few, whole_long told after cl r e)
+
+pub steps_room : (told after cl : List (List ℕ)) (r part : Repeats) (before steps size : ℕ) → cl ≡ told ++ (repeated r ++ after) → length cl ≤ 1073741824
+    → part ≡ r → before ≡ length told → steps ≡ part.horizon → ((k : ℕ) → k < r.horizon → size ≡ length r.step) → before + steps * size ≤ 1073741824
+steps_room told after cl r part before steps size e few p b es s =
+    let product : steps * size ≡ r.horizon * length r.step = ap (λ (n : ℕ). n * size) (es ∙ ap (λ (x : Repeats). x.horizon) p) ∙ product_same r.horizon size (length r.step) s in
+    omega (arith, product, b, few, whole_long told after cl r e)
+
 -- the clauses and the slots of a formula
-pub stepped_of : (told after cl : List (List ℕ)) (r : Repeats) (slots : List ℕ) (t : Steps) → cl ≡ told ++ (repeated r ++ after) → t.before ≡ length told → t.part ≡ r
-    → ((k : ℕ) → k < r.horizon → t.size ≡ length r.step) → length t.of_slots.items ≤ length slots → ArePlaced t.before r.horizon t.size t.of_slots.items slots
-    → AreStepped cl slots t
-stepped_of told after cl r slots t e b p s long placed =
-    let product : r.horizon * t.size ≡ r.horizon * length r.step = product_same r.horizon t.size (length r.step) s in record {
+pub stepped_of : (told after cl : List (List ℕ)) (r : Repeats) (slots : List ℕ) (t : Steps) (steps : ℕ) → cl ≡ told ++ (repeated r ++ after) → t.before ≡ length told
+    → t.part ≡ r → steps ≡ t.part.horizon → ((k : ℕ) → k < r.horizon → t.size ≡ length r.step) → length t.of_slots.items ≤ length slots
+    → ArePlaced t.before steps t.size t.of_slots.items slots → AreStepped cl slots t
+stepped_of told after cl r slots t steps e b p es s long placed =
+    let product : r.horizon * t.size ≡ r.horizon * length r.step = product_same r.horizon t.size (length r.step) s in
+    record {
       within = rw p (omega (arith, b, product, whole_long told after cl r e));
       sized = rw p s;
       same = rw p (λ k h. steps_same told after cl r t.before k e b (omega (arith, h, product)));
       long = long;
-      placed = rw p placed;
+      placed = subst (λ (n : ℕ). ArePlaced t.before n t.size t.of_slots.items slots) es placed;
     }

@@ -72,7 +72,9 @@ impl Steps {
         let part = parts.repeated.copy(alloc)?;
         let before = parts.told.count() as u32;
         let steps = part.horizon();
-        let size = part.step().count() as u32;
+        let all = part.step().count();
+        // Where there is no step, the list may be longer.
+        let size = all.min(1_073_741_824) as u32;
         let of_slots = steps_of(alloc, slots, before, steps, size)?;
         Ok(Steps {
             part,

@@ -1,4 +1,4 @@
-use Rattle.std.proofs.Common.{arith, refl}
+use Rattle.std.proofs.Common.{arith, ◌-◌, refl}
 use Rattle.clause_base.proofs.RepeatLemmas.{numbered}
 use Rattle.propagation.proofs.steps.step_of.Goals as goal
 

@@ -33,7 +33,8 @@ invariant_of-result c =
     (subst (λ (cs : List (List ℕ)). IsIndex c.args.formula.now.variables cs c.in_ok-pairs.pairs) (sym c.in_ok-store.ensures) c.in_ok-pairs.ensures) in (
       sound_given v t g (literals c.in_ok-trail.trail.entries) c.in_ok-quiet.quiet.items small
           (omega (arith, all, c.count-count.ensures.few, c.count-count.ensures.value)) f kept refl trail c.in_ok-given.ensures c.in_ok-quiet.ensures
-          (subst (λ (cs : List (List ℕ)). AreStepped cs g.slots.items c.in_ok-steps.steps) (sym c.in_ok-store.ensures) c.in_ok-steps.ensures),
+          (subst (λ (cs : List (List ℕ)). AreStepped cs g.slots.items c.in_ok-steps.steps) (sym c.in_ok-store.ensures)
+          (subst (λ (ss : List ℕ). AreStepped c.args.formula.now.clauses ss c.in_ok-steps.steps) c.deref.ensures.value c.in_ok-steps.ensures)),
       paired_given v store g c.in_ok-pairs.pairs c.in_ok-given.ensures index,
       ap (λ (t : TrailView). t.variables) c.in_ok-trail.ensures,
     )
