@@ -1,6 +1,3 @@
-pub mod Counts
-pub mod Fills
-pub mod Tables
 pub mod Shifts
 pub mod Blocks
 pub mod Exacts

@@ -4,12 +4,9 @@
 //! clauses of two literals of a formula by literal: those of one step and of one time stand in tables once.
 #![tactic(auto)]
 
-mod build;
 pub mod index;
 pub mod list;
 pub mod lists;
 pub mod origin;
-pub mod pair;
 mod shape;
 pub mod store;
-mod table;

@@ -8,12 +8,12 @@ ghost use Rattle.clause_store.specs.Origin.{AreEmptyBy, IsOrigin};
 use crate::list::{Move, PairList};
 use crate::origin::{Origin, origin_of};
 use crate::shape::Shape;
-use crate::table::Table;
+use clause_base::pair_table::PairTable;
 use std::marker::Model;
 
 /// The pairs of a literal that stand as they are, with the clauses numbered from a first one on, if there are any.
 #[inline]
-fn plain_list(table: &Table, code: u32, first: u32) -> Option<PairList<'_>>
+fn plain_list(table: &PairTable, code: u32, first: u32) -> Option<PairList<'_>>
     requires within { AreWithin 4294967296 1073741824 table.now }
     requires few { first ≤ 1073741824 }
     ensures { unwrap_or result [] ≡ moved_list table.now (plain_move first) code }
@@ -33,7 +33,7 @@ fn plain_list(table: &Table, code: u32, first: u32) -> Option<PairList<'_>>
 
 /// The pairs of a literal of one step, moved to a step, if there are any.
 #[inline]
-fn step_list<'a>(shape: &Shape, table: &'a Table, step: u32, code: u32) -> Option<PairList<'a>>
+fn step_list<'a>(shape: &Shape, table: &'a PairTable, step: u32, code: u32) -> Option<PairList<'a>>
     requires shape { IsShape shape.now }
     requires within { AreWithin (2 * (shape.now.width + 2 * shape.now.facts)) shape.now.steps table.now }
     requires step { step < shape.now.horizon }
@@ -54,7 +54,7 @@ fn step_list<'a>(shape: &Shape, table: &'a Table, step: u32, code: u32) -> Optio
 
 /// The pairs of a literal of one time, moved to a time, if there are any.
 #[inline]
-fn time_list<'a>(shape: &Shape, table: &'a Table, time: u32, code: u32) -> Option<PairList<'a>>
+fn time_list<'a>(shape: &Shape, table: &'a PairTable, time: u32, code: u32) -> Option<PairList<'a>>
     requires shape { IsShape shape.now }
     requires within { AreWithin (2 * shape.now.facts) shape.now.times table.now }
     requires time { time ≤ shape.now.horizon }
@@ -75,7 +75,7 @@ fn time_list<'a>(shape: &Shape, table: &'a Table, time: u32, code: u32) -> Optio
 
 /// The pairs of a fact at a time in the step that ends there, if there are any.
 #[inline]
-fn last_of<'a>(shape: &Shape, step: &'a Table, time: u32, fact: u32) -> Option<PairList<'a>>
+fn last_of<'a>(shape: &Shape, step: &'a PairTable, time: u32, fact: u32) -> Option<PairList<'a>>
     requires shape { IsShape shape.now }
     requires within { AreWithin (2 * (shape.now.width + 2 * shape.now.facts)) shape.now.steps step.now }
     requires time { time ≤ shape.now.horizon }
@@ -96,7 +96,7 @@ fn last_of<'a>(shape: &Shape, step: &'a Table, time: u32, fact: u32) -> Option<P
 
 /// The pairs of a fact at a time in the step that begins there, if there are any.
 #[inline]
-fn next_of<'a>(shape: &Shape, step: &'a Table, time: u32, fact: u32) -> Option<PairList<'a>>
+fn next_of<'a>(shape: &Shape, step: &'a PairTable, time: u32, fact: u32) -> Option<PairList<'a>>
     requires shape { IsShape shape.now }
     requires within { AreWithin (2 * (shape.now.width + 2 * shape.now.facts)) shape.now.steps step.now }
     requires fact { fact < 2 * shape.now.facts }
@@ -113,10 +113,10 @@ fn next_of<'a>(shape: &Shape, step: &'a Table, time: u32, fact: u32) -> Option<P
 #[derive(Drop)]
 pub struct Lists<'a> {
     shape: &'a Shape,
-    told: &'a Table,
-    step: &'a Table,
-    time: &'a Table,
-    after: &'a Table,
+    told: &'a PairTable,
+    step: &'a PairTable,
+    time: &'a PairTable,
+    after: &'a PairTable,
     code: u32,
     origin: Origin,
 }
@@ -137,10 +137,10 @@ impl<'a> Lists<'a> {
     #[inline]
     pub(crate) fn of(
         shape: &'a Shape,
-        told: &'a Table,
-        step: &'a Table,
-        time: &'a Table,
-        after: &'a Table,
+        told: &'a PairTable,
+        step: &'a PairTable,
+        time: &'a PairTable,
+        after: &'a PairTable,
         code: u32,
     ) -> Lists<'a>
         requires shape { IsShape shape.now }

@@ -72,6 +72,7 @@ sound_again v t t' l trail quiet i e = record {
     kept = rw (e.store, e.kept) i.tables.kept;
     slotted = rw (e.store, e.slots) i.tables.slotted;
     few = rw e.slots i.tables.few;
+    steps = rw (e.store, e.slots, e.steps) i.tables.steps;
   };
   few = rw e.store i.few;
   slots_few = rw (e.store, e.slots) i.slots_few;

@@ -2,9 +2,10 @@
 use Rattle.std.specs.Prelude.{◌≡◌, ℕ, ◌*◌, ◌<◌, ◌⊎◌, List, true, false, length, slice_index}
 use Rattle.clause_base.specs.Clause.{has_literal}
 use Rattle.bit_sets.specs.Layered.{words_have}
-use Rattle.clause_store.specs.declared.pair.Pair.{Pair}
+use Rattle.clause_base.specs.declared.pair.Pair.{Pair}
 use Rattle.clause_store.specs.Origin.{ListsView}
-use Rattle.clause_store.specs.Pairs.{IsInPairs, IsPairOf, AreExact, pair_in}
+use Rattle.clause_base.specs.Pairs.{pair_in}
+use Rattle.clause_store.specs.Pairs.{IsInPairs, IsPairOf, AreExact}
 use Rattle.propagation.specs.declared.pending.Pending.{Pending}
 use Rattle.cdcl_rules.specs.State.{clause_at}
 

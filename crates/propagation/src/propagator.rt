@@ -17,8 +17,9 @@ use crate::known::{Known, list_from};
 use crate::marks::mark_pairs;
 use crate::pending::Pending;
 use crate::quiet::{no_quiet, raise};
-use crate::room::make_room;
+use crate::room::{all_kept, make_room};
 use crate::scan::status_of;
+use crate::steps::Steps;
 use crate::tables::Tables;
 use crate::take_slot::take_slot;
 use crate::undo::{Back, refresh, take_back};
@@ -86,17 +87,19 @@ impl Propagator {
         let variables = formula.variables();
         let count = formula.count();
         let store = Store::new(alloc, formula)?;
-        let kept = vec![in alloc; true; count as usize]?;
+        let kept = all_kept(alloc, count)?;
         let trail = Trail::new(alloc, variables)?;
         let pairs = PairIndex::new(alloc, formula)?;
         let quiet = no_quiet(alloc, variables)?;
         let given = Given::new(alloc, &store, formula, 2 * variables)?;
+        let steps = Steps::new(alloc, formula, &given.slots)?;
         Ok(Propagator {
             variables,
             tables: Tables {
                 store,
                 kept,
                 slots: given.slots,
+                steps,
             },
             trail,
             pairs,
