@@ -32,7 +32,7 @@ stepped_add cl k number codes trail slots l slots' l' t taken i = record {
     placed : IsTaken k number codes trail slots l slots' l' → ArePlaced t.before t.part.horizon t.size t.of_slots.items slots'
     placed (inl a) = subst (λ (ss : List ℕ). ArePlaced t.before t.part.horizon t.size t.of_slots.items ss) (sym a.slots_stay) i.placed
     placed (inr a) = λ s h.
-        let e : get_or slots' s 0 ≡ get_or slots s 0 = ap (λ (ss : List ℕ). get_or ss s 0) a.slotted ∙ get_or_append_left slots (number ∷ []) s 0 (omega (arith, h, i.long)) in
+        let e : get_or slots' s 0 ≡ get_or slots s 0 = ap (λ (ss : List ℕ). get_or ss s 0) a.slotted ∙ get_or_append_left slots (number ∷ []) 0 s (omega (arith, h, i.long)) in
         subst (λ (n : ℕ). IsPlaced t.before t.part.horizon t.size (get_or t.of_slots.items s 0) n) (sym e) (i.placed s h)
 
 -- where the clause of a slot is

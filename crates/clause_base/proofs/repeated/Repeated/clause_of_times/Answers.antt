@@ -1,4 +1,4 @@
-use Rattle.std.proofs.Common.{ℕ, ◌+◌, length, ap, sym, ◌∙◌}
+use Rattle.std.proofs.Common.{◌+◌, length, ap, sym, ◌∙◌}
 use Rattle.std.specs.List.{slice_get}
 use Rattle.clause_base.specs.Repeats.{Repeats, all_times}
 use Rattle.clause_base.proofs.RepeatLemmas.{numbered}
