@@ -79,7 +79,9 @@ fn in_order(effects: Vec<Keyed>) -> Vec<Keyed>
     ensures { effects_at result.items ≡ sorted_set effect_less (effects_at effects.items) }
 {
     let mut effects = effects;
-    effects.sort_unstable();
+    if !effects.is_sorted() {
+        effects.sort_unstable();
+    }
     effects.dedup();
     effects
 }
