@@ -7,3 +7,5 @@ pub mod Five
 pub mod Shapes
 pub mod Movables
 pub mod Origins
+pub mod Linking
+pub mod ChainWalks

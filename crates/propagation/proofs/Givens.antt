@@ -12,7 +12,7 @@ use Rattle.cdcl_rules.specs.State.{clause_at}
 use Rattle.bit_sets.specs.Layered.{words_have}
 use Rattle.clause_base.specs.declared.pair.Pair.{Pair}
 use Rattle.clause_store.specs.Pairs.{IsIndex}
-use Rattle.watch_chains.specs.Linked.{IsLinked}
+use Rattle.clause_store.specs.Linked.{IsLinked}
 use Rattle.propagation.specs.declared.given.Given.{Given}
 use Rattle.propagation.specs.declared.pending.Pending.{Pending}
 use Rattle.propagation.specs.declared.tables.Tables.{Tables}

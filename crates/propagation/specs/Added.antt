@@ -2,7 +2,7 @@
 use Rattle.std.specs.Prelude.{◌≡◌, ℕ, ◌+◌, ◌*◌, ◌<◌, ◌≤◌, ◌⊎◌, List, [], ◌∷◌, ◌++◌, length, take, Bool, true, false, Option}
 use Rattle.clause_base.specs.Clause.{has_literal}
 use Rattle.cdcl_rules.specs.Pending.{is_pending}
-use Rattle.watch_chains.specs.Linked.{IsLinked, ArePairLoose, blocking_of}
+use Rattle.clause_store.specs.Linked.{IsLinked, ArePairLoose, blocking_of}
 use Rattle.propagation.specs.declared.pending.Pending.{Pending}
 use Rattle.propagation.specs.declared.enter.Entered.{Entered}
 use Rattle.propagation.specs.declared.tables.Tables.{Tables}

@@ -4,7 +4,7 @@
 ghost use Rattle.std.specs.Prelude.{◌≡◌, ℕ, ◌+◌, ◌*◌, ◌<◌, ◌≤◌, ◌==◌, [], None, false, length, IfOk, OnOk};
 ghost use Rattle.cdcl_rules.specs.State.{clause_at};
 ghost use Rattle.bit_sets.specs.Layered.{words_have};
-ghost use Rattle.watch_chains.specs.Linked.{IsLinked};
+ghost use Rattle.clause_store.specs.Linked.{IsLinked};
 ghost use Rattle.propagation.specs.Visit.{IsFit, AreSlotsBelow};
 ghost use Rattle.propagation.specs.Given.{AreGiven, AreOthers, AreRising, IsBeside};
 
@@ -16,9 +16,9 @@ use clause_base::clause_list::ClauseList;
 use clause_base::formula::Formula;
 use clause_base::memory::Memory;
 use clause_base::shared_list::SharedList;
+use clause_store::chains::Chains;
 use clause_store::store::Store;
 use std::alloc::Global;
-use watch_chains::chains::Chains;
 
 /// The slots of a formula's clauses, and what is watched of them.
 #[derive(Drop)]

@@ -34,12 +34,12 @@ use cdcl_trail::trail::Trail;
 use clause_base::formula::Formula;
 use clause_base::literal::Lit;
 use clause_base::memory::Memory;
+use clause_store::chains::Chains;
 use clause_store::index::PairIndex;
 use clause_store::store::Store;
 use containers::let_go;
 use std::alloc::Global;
 use std::marker::Model;
-use watch_chains::chains::Chains;
 
 /// How many clauses there may be.
 const MOST_CLAUSES: u32 = 2_147_483_647;

@@ -1,7 +1,7 @@
 use Rattle.std.proofs.Common.{arith, None}
-use Rattle.watch_chains.specs.Linked.{placed}
-use Rattle.watch_chains.proofs.Walks.{walk_below, placed_none}
-use Rattle.watch_chains.proofs.chains.Chains.move_to.Goals as goal
+use Rattle.clause_store.specs.Linked.{placed}
+use Rattle.clause_store.proofs.ChainWalks.{walk_below, placed_none}
+use Rattle.clause_store.proofs.chains.Chains.move_to.Goals as goal
 
 pub link-requires-clause-node : goal.link-requires-clause-node
 link-requires-clause-node c =

@@ -5,10 +5,10 @@ use Rattle.std.specs.List.{AllByRecursion, IsDistinct}
 use Rattle.std.proofs.lemmas.Bool.Decides.{nat_tests}
 use Rattle.std.proofs.lemmas.Map.Keys.{IsDistinct-cons}
 use Rattle.std.proofs.lemmas.Map.Steps.{length-le_from_distinct_below}
-use Rattle.watch_chains.specs.declared.chains.Node.{Node}
+use Rattle.clause_store.specs.declared.chains.Node.{Node}
 use Rattle.std.proofs.lemmas.List.{get_or_append_left}
-use Rattle.watch_chains.specs.Linked.{no_node, next_of, has, IsChain, HasNoneTwice, IsLinked, placed}
-use Rattle.watch_chains.specs.Walk.{steps}
+use Rattle.clause_store.specs.Linked.{no_node, next_of, has, IsChain, HasNoneTwice, IsLinked, placed}
+use Rattle.clause_store.specs.Walk.{steps}
 
 pub or_false : (a b : Bool) → (a || b) ≡ false → (a ≡ false) × (b ≡ false)
 or_false true b h = cc

@@ -1,8 +1,8 @@
 -- A walk along a chain: it stands at a node, or at the end, and knows the node before it.
 use Rattle.std.specs.Prelude.{◌≡◌, ℕ, zero, suc, ◌<◌, ◌==◌, List, [], ◌∷◌, ◌++◌, length, slice_index, true, Option, Some, if◌then◌else◌}
-use Rattle.watch_chains.specs.declared.chains.Node.{Node}
-use Rattle.watch_chains.specs.declared.chains.Place.{Place}
-use Rattle.watch_chains.specs.Linked.{has, next_of, IsChain, IsLinked}
+use Rattle.clause_store.specs.declared.chains.Node.{Node}
+use Rattle.clause_store.specs.declared.chains.Place.{Place}
+use Rattle.clause_store.specs.Linked.{has, next_of, IsChain, IsLinked}
 
 -- the first number of a list, or the end
 abbrev pub first_of : List ℕ → ℕ

@@ -2,11 +2,11 @@ use Rattle.std.proofs.Common.{arith, ◌≡◌, ◌≢◌, ◌==◌, ℕ, ◌<�
 use Rattle.std.proofs.Common.{refl, sym, ap, ◌∙◌, subst, if◌then◌else◌, Option, Some, None, length-set, get_or-set_same, get_or-set_other, length-append}
 use Rattle.std.proofs.lemmas.Bool.Decides.{nat_tests}
 use Rattle.std.proofs.lemmas.List.{append_assoc, get_or_read}
-use Rattle.watch_chains.specs.declared.chains.Node.{Node}
-use Rattle.watch_chains.specs.declared.chains.Place.{Place}
-use Rattle.watch_chains.specs.Linked.{no_node, next_of, has, IsChain, HasNoneTwice, IsLinked, placed}
-use Rattle.watch_chains.specs.Walk.{first_of, last_from, AreOn, steps, left_from, IsWalk, StandsAt}
-use Rattle.watch_chains.proofs.Linking.{or_false, or_right, chain-set, chain_short, steps_is, has_not, chosen, with_chain, linked_link}
+use Rattle.clause_store.specs.declared.chains.Node.{Node}
+use Rattle.clause_store.specs.declared.chains.Place.{Place}
+use Rattle.clause_store.specs.Linked.{no_node, next_of, has, IsChain, HasNoneTwice, IsLinked, placed}
+use Rattle.clause_store.specs.Walk.{first_of, last_from, AreOn, steps, left_from, IsWalk, StandsAt}
+use Rattle.clause_store.proofs.Linking.{or_false, or_right, chain-set, chain_short, steps_is, has_not, chosen, with_chain, linked_link}
 
 -- a chain from a number on is known by the nodes
 chain_same : (nodes : List Node) (a : ℕ) (xs ys : List ℕ) → length nodes ≤ 4294967295 → IsChain nodes a xs → IsChain nodes a ys → xs ≡ ys

@@ -1,6 +1,6 @@
 use Rattle.std.proofs.Common.{refl}
-use Rattle.watch_chains.proofs.Walks.{walk_after, next_read}
-use Rattle.watch_chains.proofs.chains.Chains.after.Goals as goal
+use Rattle.clause_store.proofs.ChainWalks.{walk_after, next_read}
+use Rattle.clause_store.proofs.chains.Chains.after.Goals as goal
 
 pub returns : goal.returns
 returns c on code rest w =

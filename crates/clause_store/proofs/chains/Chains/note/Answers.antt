@@ -1,5 +1,5 @@
-use Rattle.watch_chains.proofs.Walks.{linked_note, walk_note, next_read}
-use Rattle.watch_chains.proofs.chains.Chains.note.Goals as goal
+use Rattle.clause_store.proofs.ChainWalks.{linked_note, walk_note, next_read}
+use Rattle.clause_store.proofs.chains.Chains.note.Goals as goal
 
 pub returns-clause-linked : goal.returns-clause-linked
 returns-clause-linked c on m =

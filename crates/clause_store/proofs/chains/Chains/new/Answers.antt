@@ -1,9 +1,9 @@
 use Rattle.std.proofs.Common.{arith, ◌∙◌, List, ℕ, get_or, length, sym, ap, subst, None}
 use Rattle.std.proofs.lemmas.List.{get_or-replicate, length-replicate}
-use Rattle.watch_chains.specs.declared.chains.Node.{Node}
-use Rattle.watch_chains.specs.Linked.{IsLinked}
-use Rattle.watch_chains.proofs.Linking.{linked_none}
-use Rattle.watch_chains.proofs.chains.Chains.new.Goals as goal
+use Rattle.clause_store.specs.declared.chains.Node.{Node}
+use Rattle.clause_store.specs.Linked.{IsLinked}
+use Rattle.clause_store.proofs.Linking.{linked_none}
+use Rattle.clause_store.proofs.chains.Chains.new.Goals as goal
 
 pub returns-clause-linked : goal.returns-clause-linked
 returns-clause-linked c =

@@ -1,7 +1,7 @@
 use Rattle.std.proofs.Common.{refl}
 use Rattle.std.proofs.lemmas.List.{get_or_read}
-use Rattle.watch_chains.proofs.Walks.{walk_first}
-use Rattle.watch_chains.proofs.chains.Chains.first.Goals as goal
+use Rattle.clause_store.proofs.ChainWalks.{walk_first}
+use Rattle.clause_store.proofs.chains.Chains.first.Goals as goal
 
 pub returns : goal.returns
 returns c on m =

@@ -1,7 +1,7 @@
 use Rattle.std.proofs.lemmas.List.{get_or_read}
-use Rattle.watch_chains.proofs.Linking.{linked_link}
-use Rattle.watch_chains.proofs.Walks.{walk_link}
-use Rattle.watch_chains.proofs.chains.Chains.link.Goals as goal
+use Rattle.clause_store.proofs.Linking.{linked_link}
+use Rattle.clause_store.proofs.ChainWalks.{walk_link}
+use Rattle.clause_store.proofs.chains.Chains.link.Goals as goal
 
 pub returns-clause-linked : goal.returns-clause-linked
 returns-clause-linked c on m o =

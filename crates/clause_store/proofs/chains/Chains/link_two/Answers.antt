@@ -1,7 +1,7 @@
 use Rattle.std.proofs.Common.{arith, ◌≡◌, ◌==◌, ℕ, ◌+◌, false, Bool, Option, Some, None, List, length, ap, ◌∙◌, if◌then◌else◌}
 use Rattle.std.proofs.lemmas.Bool.Decides.{nat_tests}
-use Rattle.watch_chains.specs.Linked.{placed}
-use Rattle.watch_chains.proofs.chains.Chains.link_two.Goals as goal
+use Rattle.clause_store.specs.Linked.{placed}
+use Rattle.clause_store.proofs.chains.Chains.link_two.Goals as goal
 
 next_apart : (node : ℕ) (code : Option ℕ) (on : ℕ → Option ℕ) → on (node + 1) ≡ None → placed node code on (node + 1) ≡ None
 next_apart node code on e =

@@ -1,8 +1,8 @@
 use Rattle.std.proofs.Common.{arith, ◌≡◌, ◌++◌, ◌∷◌, [], List, sym, ◌∙◌, ap, subst, length-append}
-use Rattle.watch_chains.specs.declared.chains.Node.{Node}
-use Rattle.watch_chains.specs.Linked.{IsLinked, no_node}
-use Rattle.watch_chains.proofs.Linking.{linked_more}
-use Rattle.watch_chains.proofs.chains.Chains.add_two.Goals as goal
+use Rattle.clause_store.specs.declared.chains.Node.{Node}
+use Rattle.clause_store.specs.Linked.{IsLinked, no_node}
+use Rattle.clause_store.proofs.Linking.{linked_more}
+use Rattle.clause_store.proofs.chains.Chains.add_two.Goals as goal
 
 pub returns-clause-linked : goal.returns-clause-linked
 returns-clause-linked c on m =

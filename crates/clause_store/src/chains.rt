@@ -1,6 +1,14 @@
+//! Chains of numbered nodes, one chain for each code. A node stands on one chain at most, and is moved from one to another
+//! without memory.
+//!
+//! The chains are for watched literals (Moskewicz and others, 2001): the nodes of a literal are those of the clauses that watch
+//! it. A clause that watches another literal from now on changes its chain, so that with a vector for each literal some would
+//! grow at each literal that becomes false, and memory could be wanting in the midst of it. Here two numbers are written, and
+//! what is made once is enough for as long as no clause is added. Each node has a blocking literal beside it (Eén and
+//! Sörensson, 2003): another literal of its clause, whose truth is known without a look at the clause.
 ghost use Rattle.std.specs.Prelude.{◌≡◌, ℕ, ◌<◌, ◌≤◌, ◌+◌, ◌++◌, ◌∷◌, [], List, Option, Some, None, length, IfOk, OnOk, OnErr, MatchOption, slice_index, vec_capacity};
-ghost use Rattle.watch_chains.specs.Linked.{IsLinked, IsLoose, ArePairLoose, placed, blocking_of};
-ghost use Rattle.watch_chains.specs.Walk.{IsWalk, StandsAt};
+ghost use Rattle.clause_store.specs.Linked.{IsLinked, IsLoose, ArePairLoose, placed, blocking_of};
+ghost use Rattle.clause_store.specs.Walk.{IsWalk, StandsAt};
 
 use std::alloc::{AllocError, Global};
 

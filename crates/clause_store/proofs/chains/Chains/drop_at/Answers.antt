@@ -1,9 +1,9 @@
 use Rattle.std.proofs.Common.{arith, ◌≡◌, ℕ, List, ◌∷◌, Option, refl}
-use Rattle.watch_chains.specs.Linked.{next_of}
-use Rattle.watch_chains.specs.Walk.{IsWalk}
-use Rattle.watch_chains.proofs.Walks.{walk_below, before_below, walk_drop_first, walk_drop, next_read}
-use Rattle.watch_chains.proofs.chains.Chains.drop_at.Goals as goal
-use Rattle.watch_chains.proofs.chains.Chains.drop_at.Goals.{After-index}
+use Rattle.clause_store.specs.Linked.{next_of}
+use Rattle.clause_store.specs.Walk.{IsWalk}
+use Rattle.clause_store.proofs.ChainWalks.{walk_below, before_below, walk_drop_first, walk_drop, next_read}
+use Rattle.clause_store.proofs.chains.Chains.drop_at.Goals as goal
+use Rattle.clause_store.proofs.chains.Chains.drop_at.Goals.{After-index}
 
 pub index-requires : goal.index-requires
 index-requires c =

@@ -1,6 +1,6 @@
 use Rattle.std.specs.Prelude.{◌≡◌, ℕ, ◌+◌, ◌<◌, ◌≤◌, ◌==◌, List, [], ◌∷◌, length, slice_index, slice_index_or, Bool, true, false, Option, Some, None, if◌then◌else◌}
 use Rattle.std.specs.List.{list_any}
-use Rattle.watch_chains.specs.declared.chains.Node.{Node}
+use Rattle.clause_store.specs.declared.chains.Node.{Node}
 
 -- a node past the end of a table
 abbrev pub no_node : Node
