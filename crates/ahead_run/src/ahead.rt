@@ -2,11 +2,15 @@
 ghost use Rattle.std.specs.Prelude.{◌≡◌, ℕ, ◌+◌, ◌≤◌, true, false, OnOk, OnErr, IfSome};
 ghost use Rattle.cdcl_rules.specs.Run.{after};
 ghost use Rattle.horizon_run.specs.Run.{choice_in, moved_to, AddsUp, IsMoved, IsReached, Stays};
+ghost use Rattle.ahead_run.specs.Seen.{IsMarked};
 
+use cdcl_rules::standing::Standing;
 use clause_base::memory::Memory;
 use containers::let_go;
 use horizon_run::HorizonRun;
+use rup_check::check::Checked;
 use solver_pool::Resume;
+use std::alloc::Global;
 use std::marker::Model;
 
 // How many conflicts a run may be granted in all.
@@ -19,31 +23,49 @@ pub struct AheadRun {
     pub(crate) granted: u64,
     // How many conflicts its solver may be ahead.
     pub(crate) most: u32,
+    // The mark of its solver's log, once that refuted the formula and there was memory to check it.
+    pub(crate) mark: Option<Checked>,
+    alloc: Global,
 }
 
 impl Model for AheadRun {
-    ghost use Rattle.std.specs.Prelude.{◌≤◌};
     ghost use Rattle.horizon_run.specs.Run.{RunView};
-    ghost use Rattle.ahead_run.specs.Seen.{seen_of};
+    ghost use Rattle.ahead_run.specs.Seen.{seen_of, IsAhead};
 
     ghost Value = { RunView };
 
     ghost view = { λ a. seen_of a.run a.granted };
 
-    // Its solver handled what was granted.
-    ghost invariant = { λ a. a.granted ≤ a.run.granted };
+    ghost invariant = { λ a. IsAhead a.run a.granted a.mark };
 }
 
 /// Letting one go is one call, in which its parts go: whoever holds one proves one step.
 impl Drop for AheadRun {
     fn drop(self) {
-        let_go!(self: AheadRun { run, granted, most });
+        let_go!(self: AheadRun { run, granted, most, mark, alloc });
     }
 }
 
-/// Has a solver handle so many conflicts in all, where it has not yet.
-fn catch_up(run: &mut HorizonRun, target: u64) -> Result<(), Memory>
-    requires { target ≤ 1073741824 }
+/// The mark of a solver's log, where that refuted its formula. There is none where memory to check it is wanting.
+fn mark_of(alloc: Global, run: &HorizonRun) -> Option<Checked>
+    ensures { IsMarked run.now result }
+{
+    match run.standing() {
+        Standing::Refuted => run.certify(alloc).ok(),
+        _ => None,
+    }
+}
+
+/// Has a solver handle so many conflicts in all, where it has not yet. Its log is checked once it refuted its formula.
+fn catch_up(
+    alloc: Global,
+    run: &mut HorizonRun,
+    mark: &mut Option<Checked>,
+    target: u64,
+) -> Result<(), Memory>
+    requires few { target ≤ 1073741824 }
+    requires marked { IsMarked run.old mark.old }
+    ensures marked { IsMarked run.new mark.new }
     ensures there { OnOk result (target ≤ run.new.granted) }
     ensures sane { OnOk result (run.old.spoilt ≡ false) }
     ensures sound { OnOk result (run.new.spoilt ≡ false) }
@@ -53,6 +75,8 @@ fn catch_up(run: &mut HorizonRun, target: u64) -> Result<(), Memory>
     ensures means { run.new.means ≡ run.old.means }
     ensures stays { run.old.spoilt ≡ true → run.new ≡ run.old }
 {
+    // For the proof: a refuted run stays where it is.
+    let _settled = run.standing();
     if run.spoilt() {
         return Err(Memory);
     }
@@ -60,13 +84,19 @@ fn catch_up(run: &mut HorizonRun, target: u64) -> Result<(), Memory>
     if target <= granted {
         return Ok(());
     }
-    run.go_on((target - granted) as u32)?;
+    if run.go_on((target - granted) as u32).is_err() {
+        *mark = None;
+        return Err(Memory);
+    }
+    if mark.is_none() {
+        *mark = mark_of(alloc, run);
+    }
     Ok(())
 }
 
 impl AheadRun {
     /// A run whose solver is not ahead.
-    pub fn of(run: HorizonRun) -> AheadRun
+    pub fn of(alloc: Global, run: HorizonRun) -> AheadRun
         ensures { result ≡ run }
     {
         // For the proof: a run that is not spoilt is where its grants have it.
@@ -76,6 +106,8 @@ impl AheadRun {
             run,
             granted,
             most: 0,
+            mark: None,
+            alloc,
         }
     }
 
@@ -115,7 +147,7 @@ impl AheadRun {
     {
         self.keeps_laws();
         let granted = self.granted + u64::from(conflicts);
-        match catch_up(&mut self.run, granted) {
+        match catch_up(self.alloc, &mut self.run, &mut self.mark, granted) {
             Ok(()) => {
                 self.granted = granted;
                 Ok(())
@@ -146,7 +178,7 @@ impl AheadRun {
         ensures granted { self.new.granted ≡ self.old.granted }
         ensures same { self.new.spoilt ≡ false → self.new ≡ self.old }
     {
-        match catch_up(&mut self.run, target) {
+        match catch_up(self.alloc, &mut self.run, &mut self.mark, target) {
             Ok(()) => true,
             Err(_) => false,
         }

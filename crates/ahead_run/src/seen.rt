@@ -75,12 +75,19 @@ impl AheadRun {
         self.settled_run().values(alloc)
     }
 
-    /// The mark of a refuted run: its log, checked. The marked formula has no model.
-    pub fn certify(&self, alloc: Global) -> Result<Checked, Memory>
-        requires { self.now.state.standing ≡ Standing.Refuted }
-        ensures certified { IfOk result (λ checked. Certifies checked self.now.formula self.now.state.log) }
-        ensures refutation { IsRefutation self.now.formula.variables self.now.formula.clauses self.now.state.log }
+    /// The mark of a refuted run: its log, checked, by the worker that advanced it where there was memory. The marked formula has
+    /// no model.
+    pub fn certify(self, alloc: Global) -> Result<Checked, Memory>
+        requires { self.state.standing ≡ Standing.Refuted }
+        ensures certified { IfOk result (λ checked. Certifies checked self.formula self.state.log) }
+        ensures refutation { IsRefutation self.formula.variables self.formula.clauses self.state.log }
     {
-        self.settled_run().certify(alloc)
+        let mut run = self;
+        // For the proof: a run whose solver is ahead goes on, so this one's is not.
+        let _ahead = is_ahead(&run.run, run.granted);
+        match run.mark.take() {
+            Some(mark) => Ok(mark),
+            None => run.run.certify(alloc),
+        }
     }
 }

@@ -1,8 +1,7 @@
-use Rattle.std.proofs.Common.{arith, ◌≡◌, ◌==◌, ℕ, zero, suc, ◌+◌, ◌*◌, ◌/◌, ◌%◌, ◌<◌, ◌≤◌, List, [], ◌∷◌, length, get_or, leb, ◌++◌, Bool, true, false, not, refl, sym, ap, subst, ◌∙◌, ◌⊎◌, inl, inr, Option, Some, None, ltb}
+use Rattle.std.proofs.Common.{arith, ◌≡◌, ◌==◌, ℕ, zero, suc, ◌+◌, ◌*◌, ◌/◌, ◌%◌, ◌<◌, ◌≤◌, List, [], ◌∷◌, length, get_or, leb, ◌++◌, Bool, true, false, not, refl, sym, ap, ◌∙◌, ◌⊎◌, inl, inr, Some, ltb}
 use Rattle.std.proofs.lemmas.Bool.Decides.{nat_tests}
-use Rattle.std.specs.Prelude.{IfSome}
 use Rattle.bit_sets.proofs.WordLaw.{zero_has}
-use Rattle.bit_sets.specs.Layered.{word_has, words_have, IsLeast, IsAbove, IsPast, IsLeastIn, IsLeastNear}
+use Rattle.bit_sets.specs.Layered.{word_has, words_have, IsLeast, IsAbove, IsPast, IsLeastNear}
 
 above_zero : (words : List ℕ) (p : ℕ → Bool) (j : ℕ) → IsAbove words p → p j ≡ false → get_or words j 0 ≡ 0
 above_zero words p j a e = by (get_or words j 0 == 0) refl
@@ -48,31 +47,16 @@ layered_least words p place bit a l h b =
     below j (inl x) = ap (λ (w : ℕ). word_has w (j % 64)) (above_zero words p (j / 64) a (l.1 (j / 64) x)) ∙ zero_has (j % 64)
     below j (inr x) = ap (λ (i : ℕ). word_has (get_or words i 0) (j % 64)) x.0 ∙ b.1 (j % 64) x.1
 
--- the least number in a word at which all numbers are past one of it is the least of all
-pub next_least : (words : List ℕ) (past n : ℕ) → IsPast (words_have words) (Some past) → IsLeastIn words (past / 64) n → IsLeast (words_have words) (Some n)
-next_least words past n before l = (
-  ap (λ (i : ℕ). word_has (get_or words i 0) (n % 64)) l.place_is ∙ l.least.0,
-  λ j k. by j k (leb j past) refl,
-)
+-- the least number in the word of one that all numbers are past is the least of all
+pub next_least : (p : ℕ → Bool) (past n : ℕ) → IsPast p (Some past) → IsLeastNear p past n → IsLeast p (Some n)
+next_least p past n before l = (l.own, λ j k. by j k (leb j past) refl)
   where
-    by : (j : ℕ) → j < n → (b : Bool) → leb j past ≡ b → words_have words j ≡ false
+    by : (j : ℕ) → j < n → (b : Bool) → leb j past ≡ b → p j ≡ false
     by j k true f = before j (grind (arith, nat_tests))
     by j k false f =
-        let p : past < j = grind (arith, nat_tests) in
-        let q : j / 64 ≡ past / 64 = omega (arith, k, p, l.place_is) in
-        let r : j % 64 < n % 64 = omega (arith, k, q, l.place_is) in
-        ap (λ (i : ℕ). word_has (get_or words i 0) (j % 64)) q ∙ l.least.1 (j % 64) r
-
--- a word that is near
-pub near_of : (words : List ℕ) (number : ℕ) (o : Option ℕ) → IfSome o (λ n. IsLeastIn words (number / 64) n) → IfSome o (λ n. IsLeastNear (words_have words) number n)
-near_of words number None h = tt
-near_of words number (Some n) l = record {
-  near = l.place_is;
-  own = ap (λ (i : ℕ). word_has (get_or words i 0) (n % 64)) l.place_is ∙ l.least.0;
-  none = λ j e h.
-      let r : j % 64 < n % 64 = omega (arith, h, e, l.place_is) in
-      ap (λ (i : ℕ). word_has (get_or words i 0) (j % 64)) e ∙ l.least.1 (j % 64) r;
-}
+        let q : past < j = grind (arith, nat_tests) in
+        let near = l.near in
+        l.none j (omega (arith, k, q, near)) k
 
 -- past a number the least of all is the least bit of the least word near it that is not 0
 pub near_least : (words : List ℕ) (p : ℕ → Bool) (past next bit : ℕ) → IsAbove words p → IsPast (words_have words) (Some past)
@@ -99,13 +83,16 @@ near_least words p past next bit a before l h b =
         ap (λ (i : ℕ). word_has (get_or words i 0) (j % 64)) e ∙ b.1 (j % 64) s
 
 -- the least bit of a word that is not 0
-pub least_in_word : (words : List ℕ) (place bit : ℕ) → bit < 64 → IsLeast (word_has (get_or words place 0)) (Some bit) → IsLeastIn words place (64 * place + bit)
-least_in_word words place bit h b =
-    let q : (64 * place + bit) / 64 ≡ place = grind arith in
-    let r : (64 * place + bit) % 64 ≡ bit = grind arith in
+pub near_in_word : (words : List ℕ) (number bit : ℕ) → bit < 64 → IsLeast (word_has (get_or words (number / 64) 0)) (Some bit) → IsLeastNear (words_have words) number (64 * (number / 64) + bit)
+near_in_word words number bit h b =
+    let q : (64 * (number / 64) + bit) / 64 ≡ number / 64 = grind arith in
+    let r : (64 * (number / 64) + bit) % 64 ≡ bit = grind arith in
     record {
-      place_is = q;
-      least = subst (λ (i : ℕ). IsLeast (word_has (get_or words place 0)) (Some i)) (sym r) b;
+      near = q;
+      own = ap (λ (i : ℕ). word_has (get_or words i 0) ((64 * (number / 64) + bit) % 64)) q ∙ ap (word_has (get_or words (number / 64) 0)) r ∙ b.0;
+      none = λ j e k.
+          let s : j % 64 < bit = omega (arith, k, e, h) in
+          ap (λ (i : ℕ). word_has (get_or words i 0) (j % 64)) e ∙ b.1 (j % 64) s;
     }
 
 -- one more word that is 0 changes no number

@@ -13,11 +13,6 @@ pub record LayerView (S : Type 0) : Type 0 where
 abbrev pub IsAbove : List ℕ → (ℕ → Bool) → Type 0
 IsAbove words p = (j : ℕ) → p j ≡ not (slice_index words j == 0)
 
--- a number is the least in the word at a place
-pub record IsLeastIn (words : List ℕ) (place number : ℕ) : Type 0 where
-  pub place_is : number / 64 ≡ place
-  pub least : IsLeast (word_has (slice_index words place)) (Some (number % 64))
-
 -- a number is the least member of a set in the word of 64 numbers that another one is in
 pub record IsLeastNear (p : ℕ → Bool) (number least : ℕ) : Type 0 where
   pub near : least / 64 ≡ number / 64

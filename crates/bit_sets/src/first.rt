@@ -26,33 +26,21 @@ impl<S: NumberSet> Model for First<S> {
     ghost invariant = { λ s. IsFirst s.others.words s.least };
 }
 
-/// Takes the least number out of a set, if it has one.
-fn take_least<S: NumberSet>(set: &mut Layer<S>) -> Option<u32>
-    ensures taken { IsTakenLeast (words_have set.old.words) (words_have set.new.words) result }
-    ensures inside { IsInside set.new.words result }
-    ensures room { length set.new.words ≡ length set.old.words }
-{
-    match set.least() {
-        None => None,
-        Some(number) => {
-            set.remove(number);
-            Some(number)
-        }
-    }
-}
-
-/// The least number of a set all of whose numbers are past one, if it is near that: mostly the two stand in the same word, or in two
-/// that are near each other.
+/// The least number of a set all of whose numbers are past one, if it has one: mostly the two stand in the same word, or in two that
+/// are near each other.
 #[inline(always)]
-fn next_of<S: NumberSet>(set: &Layer<S>, past: u32) -> Option<u32>
+fn least_past<S: NumberSet>(set: &Layer<S>, past: u32) -> Option<u32>
     requires inside { past < 64 * length set.now.words }
     requires past { IsPast (words_have set.now.words) (Some past) }
-    ensures { IfSome result (λ n. IsLeast (words_have set.now.words) (Some n)) }
+    ensures { IsLeast (words_have set.now.words) result }
 {
-    match set.least_in(past / 64) {
-        None => set.least_beside(past),
-        Some(number) => Some(number),
+    if let Some(number) = set.least_near(past) {
+        return Some(number);
     }
+    if let Some(number) = set.least_beside(past) {
+        return Some(number);
+    }
+    set.least()
 }
 
 /// Takes the least number out of a set all of whose numbers are past one, if it has one.
@@ -64,13 +52,11 @@ fn take_next<S: NumberSet>(set: &mut Layer<S>, past: u32) -> Option<u32>
     ensures inside { IsInside set.new.words result }
     ensures room { length set.new.words ≡ length set.old.words }
 {
-    match next_of(set, past) {
-        None => take_least(set),
-        Some(number) => {
-            set.remove(number);
-            Some(number)
-        }
+    let next = least_past(set, past);
+    if let Some(number) = next {
+        set.remove(number);
     }
+    next
 }
 
 /// Puts a number into a set beside its least member, which is kept apart. The result is the least of both.

@@ -1,5 +1,5 @@
 ghost use Rattle.std.specs.Prelude.{◌≡◌, ℕ, ◌<◌, ◌≤◌, ◌*◌, ◌/◌, ◌==◌, ◌||◌, ◌&&◌, ◌+◌, Bool, true, false, not, [], length, slice_index, IfSome};
-ghost use Rattle.bit_sets.specs.Layered.{IsLeast, IsLeastIn, IsLeastNear, words_have};
+ghost use Rattle.bit_sets.specs.Layered.{IsLeast, IsLeastNear, words_have};
 
 use crate::set::NumberSet;
 use crate::word::{least_bit, with_bit, without_bit};
@@ -36,13 +36,14 @@ pub fn clear_bit(words: &mut Vec<u64>, number: u32) -> bool
     word == 0
 }
 
-/// The least number in the word at a place, if that has one. No other word is looked at.
+/// The least number in the word that a number is in, if that word has one. No other word is looked at.
 #[inline(always)]
-pub fn word_least(words: &[u64], place: u32) -> Option<u32>
-    requires place { place < length words.now }
+pub fn word_least(words: &[u64], number: u32) -> Option<u32>
+    requires inside { number < 64 * length words.now }
     requires few { length words.now ≤ 67108864 }
-    ensures { IfSome result (λ n. IsLeastIn words.now place n) }
+    ensures { IfSome result (λ n. IsLeastNear (words_have words.now) number n) }
 {
+    let place = number / 64;
     let word = words[place as usize];
     if word == 0 {
         return None;
@@ -101,9 +102,8 @@ impl NumberSet for Flat {
     }
 
     #[inline(always)]
-    #[tactic(auto, using(crate::proofs::BitLemmas::near_of))]
     fn least_near(&self, number: u32) -> Option<u32> {
-        word_least(&self.words, number / 64)
+        word_least(&self.words, number)
     }
 
     fn least(&self) -> Option<u32> {

@@ -1,5 +1,5 @@
 ghost use Rattle.std.specs.Prelude.{◌≡◌, ℕ, ◌<◌, ◌≤◌, ◌*◌, ◌/◌, ◌==◌, ◌||◌, ◌&&◌, ◌+◌, Bool, true, false, not, length, slice_index, All, Some, IfSome};
-ghost use Rattle.bit_sets.specs.Layered.{IsLeast, IsLeastIn, IsLeastNear, IsPast, words_have, LayerView, IsAbove};
+ghost use Rattle.bit_sets.specs.Layered.{IsLeast, IsLeastNear, IsPast, words_have, LayerView, IsAbove};
 
 use crate::flat::{clear_bit, set_bit, word_least};
 use crate::set::NumberSet;
@@ -45,9 +45,8 @@ impl<S: NumberSet> NumberSet for Layer<S> {
     }
 
     #[inline(always)]
-    #[tactic(auto, using(crate::proofs::BitLemmas::near_of))]
     fn least_near(&self, number: u32) -> Option<u32> {
-        word_least(&self.words, number / 64)
+        word_least(&self.words, number)
     }
 
     fn least(&self) -> Option<u32> {
@@ -81,15 +80,6 @@ impl<S: NumberSet> Layer<S> {
             words: Vec::new(alloc),
             above,
         }
-    }
-
-    /// The least number in the word at a place, if that has one. No other word is looked at.
-    #[inline(always)]
-    pub fn least_in(&self, place: u32) -> Option<u32>
-        requires { place < length self.now.words }
-        ensures { IfSome result (λ n. IsLeastIn self.now.words place n) }
-    {
-        word_least(&self.words, place)
     }
 
     /// The least number of a set all of whose numbers are past one, if it is in one of the 64 words that the word of that number is

@@ -70,7 +70,7 @@ impl Search {
             analysis: Analysis::new(alloc, variables)?,
             standing: Standing::Going,
             spoilt: false,
-            clauses: Clauses::new(alloc, formula)?,
+            clauses: Clauses::new(alloc, formula),
         })
     }
 

@@ -14,12 +14,12 @@ use Rattle.cdcl_rules.specs.State.{State, clause_at, is_kept}
 use Rattle.cdcl_rules.specs.Trail.{IsTrail}
 use Rattle.cdcl_rules.specs.Reduce.{has_forced, is_candidate, candidates, first_half, kept_without}
 use Rattle.cdcl_rules.specs.Run.{is_restart, trail_after, dropped_after}
-use Rattle.cdcl_rules.proofs.Tests.{and_split, not_split, not_true, apart, test_same}
+use Rattle.cdcl_rules.proofs.Tests.{and_split, not_split, not_true, apart, test_same, set_flag}
 use Rattle.cdcl_rules.proofs.Members.{is_in, is_in-filter, head_in, tail_in}
 use Rattle.cdcl_rules.proofs.Chain.{above_head}
 use Rattle.cdcl_rules.proofs.Trails.{trail_as}
 use Rattle.cdcl_laws.specs.Sound.{IsLogged}
-use Rattle.cdcl_laws.proofs.Logs.{logged_drop, names_drop, set_flag}
+use Rattle.cdcl_laws.proofs.Logs.{logged_drop, names_drop}
 use Rattle.cdcl_laws.proofs.Orders.{filter_rising, take_in, take_rising, range_in, range_rising}
 
 -- the number of a clause that may be dropped: it is a learned one, kept, and forced no entry

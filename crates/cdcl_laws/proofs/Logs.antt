@@ -14,7 +14,7 @@ use Rattle.clause_base.specs.declared.log.Entry.{Entry}
 use Rattle.clause_base.specs.declared.log.Entry.TheVariants.{Learn, Drop}
 use Rattle.clause_base.specs.Derivation.{clauses_of, drops, is_kept_after, clause_kept, is_derived_after, IsDerivation, IsDerivedAt, leads_to_conflict}
 use Rattle.cdcl_rules.specs.State.{clause_at, is_kept}
-use Rattle.cdcl_rules.proofs.Tests.{and_false, and_join}
+use Rattle.cdcl_rules.proofs.Tests.{and_join, set_flag}
 use Rattle.cdcl_rules.proofs.Members.{clause_named}
 use Rattle.cdcl_rules.proofs.WalkLaw.{Names}
 use Rattle.cdcl_laws.specs.Sound.{IsLogged, kept_count}
@@ -158,21 +158,6 @@ logged_learn f clauses kept log c h o v l = record {
         let e : is_kept (kept ++ true ∷ []) n ≡ true = ap (is_kept (kept ++ true ∷ [])) (s ∙ sym o.flags) ∙ flag_new kept in
         e ∙ sym (kept_learn log c h n ∙ o.not_ahead n (omega arith))
     by n (inr m) = flag_old kept n (omega (arith, o.flags)) ∙ o.kept_are n m ∙ sym (kept_learn log c h n)
-
-and_true : (b : Bool) → b ≡ (b && true)
-and_true true = refl
-and_true false = refl
-
-pub set_flag : (kept : List Bool) (m n : ℕ) → is_kept (set kept m false) n ≡ (is_kept kept n && not (m == n))
-set_flag [] m n = refl
-set_flag (b ∷ kept) zero zero = sym (and_false b)
-set_flag (b ∷ kept) zero (suc n) = let e : (zero == suc n) ≡ false = grind (arith, nat_tests) in rw e (and_true (is_kept kept n))
-set_flag (b ∷ kept) (suc m) zero = let e : (suc m == zero) ≡ false = grind (arith, nat_tests) in rw e (and_true b)
-set_flag (b ∷ kept) (suc m) (suc n) = let e : (suc m == suc n) ≡ (m == n) = same (m == n) refl in set_flag kept m n ∙ ap (λ (t : Bool). is_kept kept n && not t) (sym e)
-  where
-    same : (t : Bool) → (m == n) ≡ t → (suc m == suc n) ≡ t
-    same true f = grind (arith, nat_tests)
-    same false f = grind (arith, nat_tests)
 
 count_set : (kept : List Bool) (m : ℕ) → is_kept kept m ≡ true → kept_count (set kept m false) + 1 ≡ kept_count kept
 count_set [] m e = cc

@@ -9,3 +9,6 @@ pub mod ToldLemmas
 pub mod RepeatLemmas
 pub mod JoinedLemmas
 pub mod WorkedRows
+pub mod PairCounts
+pub mod PairFills
+pub mod PairTables

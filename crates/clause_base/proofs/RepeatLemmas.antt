@@ -160,10 +160,7 @@ module _ (r : Repeats) (is : IsRepeatable r) where
       all_map (λ l. l / 2 < variables_of r) (λ l. l / 2 < r.facts) (moved_code 0 0 (r.horizon * r.width + t * r.facts)) c (λ l h. time_room r.horizon r.width r.facts t l lt h) q.1) b)
 
 -- the clause of a step or a time is read by what is added
-module _ (r : Repeats) (number count : ℕ) where
-  abbrev part : ℕ
-  part = number / count
-
+module _ (r : Repeats) (part : ℕ) where
   abbrev high_in_step : ℕ
   high_in_step = 2 * (r.horizon * r.width + part * r.facts) - 2 * r.width
 
@@ -192,25 +189,19 @@ module _ (r : Repeats) (number count : ℕ) where
       let s = is.small in
       subst (λ (x : ℕ). x ≤ 4294967295) e (omega arith)
 
-  pub step_read : (lits moved : List ℕ) → count ≡ length r.step → number < r.horizon * length r.step → slice_get r.step (number % count) ≡ Some lits → moved ≡ map (shifted (2 * r.width) (part * (2 * r.width)) high_in_step) lits → slice_get (all_steps r) number ≡ Some moved
-  step_read lits moved e lt at is =
-      let p = part_of number r.horizon count (subst (λ (s : ℕ). number < r.horizon * s) (sym e) lt) in
+  pub step_read : (place : ℕ) (lits moved : List ℕ) → part < r.horizon → place < length r.step → slice_get r.step place ≡ Some lits → moved ≡ map (shifted (2 * r.width) (part * (2 * r.width)) high_in_step) lits → slice_get (all_steps r) (part * length r.step + place) ≡ Some moved
+  step_read place lits moved lt inside at is =
       let g = moved_code r.width (part * r.width) (r.horizon * r.width + part * r.facts) in
-      let whole : number ≡ part * length r.step + number % count = sym p.3 ∙ ap (λ (s : ℕ). part * s + number % count) e in
-      ap (slice_get (all_steps r)) whole
-      ∙ step_at r part (number % count) p.1 (subst (λ (s : ℕ). number % count < s) e p.2)
-      ∙ slice_get-map (map g) r.step (number % count)
+      step_at r part place lt inside
+      ∙ slice_get-map (map g) r.step place
       ∙ ap (option_map (map g)) at
-      ∙ ap (λ (x : List ℕ). Some x) (map_same g (shifted (2 * r.width) (part * (2 * r.width)) high_in_step) lits (λ l. step_same l p.1) ∙ sym is)
+      ∙ ap (λ (x : List ℕ). Some x) (map_same g (shifted (2 * r.width) (part * (2 * r.width)) high_in_step) lits (λ l. step_same l lt) ∙ sym is)
 
-  pub time_read : (lits moved : List ℕ) → count ≡ length r.time → number < (r.horizon + 1) * length r.time → slice_get r.time (number % count) ≡ Some lits → moved ≡ map (shifted 0 0 high_in_time) lits → slice_get (all_times r) number ≡ Some moved
-  time_read lits moved e lt at is =
-      let p = part_of number (r.horizon + 1) count (subst (λ (s : ℕ). number < (r.horizon + 1) * s) (sym e) lt) in
+  pub time_read : (place : ℕ) (lits moved : List ℕ) → part < r.horizon + 1 → place < length r.time → slice_get r.time place ≡ Some lits → moved ≡ map (shifted 0 0 high_in_time) lits → slice_get (all_times r) (part * length r.time + place) ≡ Some moved
+  time_read place lits moved lt inside at is =
       let g = moved_code 0 0 (r.horizon * r.width + part * r.facts) in
-      let whole : number ≡ part * length r.time + number % count = sym p.3 ∙ ap (λ (s : ℕ). part * s + number % count) e in
-      ap (slice_get (all_times r)) whole
-      ∙ time_at r part (number % count) p.1 (subst (λ (s : ℕ). number % count < s) e p.2)
-      ∙ slice_get-map (map g) r.time (number % count)
+      time_at r part place lt inside
+      ∙ slice_get-map (map g) r.time place
       ∙ ap (option_map (map g)) at
       ∙ ap (λ (x : List ℕ). Some x) (map_same g (shifted 0 0 high_in_time) lits time_same ∙ sym is)
 
@@ -228,40 +219,46 @@ lawful_now r now v is a b = subst (λ (x : Repeats). All IsClause (repeated x)) 
 pub below_now : (r now : Repeats) → r ≡ now → IsRepeatable r → All IsClause r.step → All IsClause r.time → All (HasVariablesBelow (variables_of now)) (repeated now)
 below_now r now v is a b = subst (λ (x : Repeats). All (HasVariablesBelow (variables_of x)) (repeated x)) v (repeated_below r is a b)
 
+-- of which part a number is, where the parts have so many clauses
+pub numbered : (n s number count : ℕ) → count ≡ s → number < n * s → (number / count < n) × (number % count < s) × (number / count * s + number % count ≡ number)
+numbered n s number count e lt =
+    let p = part_of number n count (subst (λ (k : ℕ). number < n * k) (sym e) lt) in
+    (p.1, subst (λ (k : ℕ). number % count < k) e p.2, ap (λ (k : ℕ). number / count * k + number % count) (sym e) ∙ p.3)
+
 -- the numbers of a step fit
-pub step_numbers : (r now : Repeats) (number count first : ℕ) → r ≡ now → IsRepeatable r → number < now.horizon * length now.step → count ≡ length r.step → first ≡ r.horizon * r.width → (number / count < r.horizon) × (number / count * (2 * r.width) ≤ 4294967294) × (first + number / count * r.facts ≤ 2147483647)
-step_numbers r now number count first v is lt e f =
-    let here : number < r.horizon * length r.step = subst (λ (x : Repeats). number < x.horizon * length x.step) (sym v) lt in
-    let p = part_of number r.horizon count (subst (λ (s : ℕ). number < r.horizon * s) (sym e) here) in
+pub step_numbers : (r now : Repeats) (part first : ℕ) → r ≡ now → IsRepeatable r → part < now.horizon → first ≡ r.horizon * r.width → (part < r.horizon) × (part * (2 * r.width) ≤ 4294967294) × (first + part * r.facts ≤ 2147483647)
+step_numbers r now part first v is lt f =
+    let here : part < r.horizon = subst (λ (x : Repeats). part < x.horizon) (sym v) lt in
     let small = is.small in
-    let q : number / count ≤ r.horizon = omega (arith, p.1) in
+    let q : part ≤ r.horizon = omega (arith, here) in
     let a = mul-le-mul_right r.width q in
     let b = mul-le-mul_right r.facts q in
-    (p.1, omega arith, omega arith)
+    (here, omega arith, omega arith)
 
-pub time_numbers : (r now : Repeats) (number count first : ℕ) → r ≡ now → IsRepeatable r → number < (now.horizon + 1) * length now.time → count ≡ length r.time → first ≡ r.horizon * r.width → (number / count < r.horizon + 1) × (first + number / count * r.facts ≤ 2147483647)
-time_numbers r now number count first v is lt e f =
-    let here : number < (r.horizon + 1) * length r.time = subst (λ (x : Repeats). number < (x.horizon + 1) * length x.time) (sym v) lt in
-    let p = part_of number (r.horizon + 1) count (subst (λ (s : ℕ). number < (r.horizon + 1) * s) (sym e) here) in
+pub time_numbers : (r now : Repeats) (part first : ℕ) → r ≡ now → IsRepeatable r → part < now.horizon + 1 → first ≡ r.horizon * r.width → (part < r.horizon + 1) × (first + part * r.facts ≤ 2147483647)
+time_numbers r now part first v is lt f =
+    let here : part < r.horizon + 1 = subst (λ (x : Repeats). part < x.horizon + 1) (sym v) lt in
     let small = is.small in
-    let q : number / count ≤ r.horizon = omega (arith, p.1) in
+    let q : part ≤ r.horizon = omega (arith, here) in
     let b = mul-le-mul_right r.facts q in
-    (p.1, omega arith)
+    (here, omega arith)
 
 -- what is added to the codes, by the number of variables of all steps
-module _ (r : Repeats) (number count first : ℕ) (lits : List ℕ) (f : first ≡ r.horizon * r.width) where
-  pub step_stays_by : IsRepeatable r → number / count < r.horizon → HasVariablesBelow (r.width + 2 * r.facts) lits → All (StaysCode (2 * r.width) (number / count * (2 * r.width)) (2 * (first + number / count * r.facts) - 2 * r.width)) lits
-  step_stays_by is lt h = subst (λ (b : ℕ). All (StaysCode (2 * r.width) (number / count * (2 * r.width)) (2 * (b + number / count * r.facts) - 2 * r.width)) lits) (sym f) (step_stays r number count lits is lt h)
+module _ (r : Repeats) (part first : ℕ) (lits : List ℕ) (f : first ≡ r.horizon * r.width) where
+  pub step_stays_by : IsRepeatable r → part < r.horizon → HasVariablesBelow (r.width + 2 * r.facts) lits → All (StaysCode (2 * r.width) (part * (2 * r.width)) (2 * (first + part * r.facts) - 2 * r.width)) lits
+  step_stays_by is lt h = subst (λ (b : ℕ). All (StaysCode (2 * r.width) (part * (2 * r.width)) (2 * (b + part * r.facts) - 2 * r.width)) lits) (sym f) (step_stays r part lits is lt h)
 
-  pub time_stays_by : IsRepeatable r → number / count < r.horizon + 1 → HasVariablesBelow r.facts lits → All (StaysCode 0 0 (2 * (first + number / count * r.facts))) lits
-  time_stays_by is lt h = subst (λ (b : ℕ). All (StaysCode 0 0 (2 * (b + number / count * r.facts))) lits) (sym f) (time_stays r number count lits is lt h)
+  pub time_stays_by : IsRepeatable r → part < r.horizon + 1 → HasVariablesBelow r.facts lits → All (StaysCode 0 0 (2 * (first + part * r.facts))) lits
+  time_stays_by is lt h = subst (λ (b : ℕ). All (StaysCode 0 0 (2 * (b + part * r.facts))) lits) (sym f) (time_stays r part lits is lt h)
 
-  pub step_clause_is : (now : Repeats) (moved : List ℕ) → r ≡ now → count ≡ length r.step → number < now.horizon * length now.step → slice_get r.step (number % count) ≡ Some lits → moved ≡ map (shifted (2 * r.width) (number / count * (2 * r.width)) (2 * (first + number / count * r.facts) - 2 * r.width)) lits → slice_get (all_steps now) number ≡ Some moved
-  step_clause_is now moved v e lt at is =
-      let moved_is = subst (λ (b : ℕ). moved ≡ map (shifted (2 * r.width) (number / count * (2 * r.width)) (2 * (b + number / count * r.facts) - 2 * r.width)) lits) f is in
-      subst (λ (x : Repeats). slice_get (all_steps x) number ≡ Some moved) v (step_read r number count lits moved e (subst (λ (x : Repeats). number < x.horizon * length x.step) (sym v) lt) at moved_is)
+  pub step_clause_is : (now : Repeats) (place : ℕ) (moved : List ℕ) → r ≡ now → part < now.horizon → place < length now.step → slice_get r.step place ≡ Some lits → moved ≡ map (shifted (2 * r.width) (part * (2 * r.width)) (2 * (first + part * r.facts) - 2 * r.width)) lits → slice_get (all_steps now) (part * length now.step + place) ≡ Some moved
+  step_clause_is now place moved v lt inside at is =
+      let moved_is = subst (λ (b : ℕ). moved ≡ map (shifted (2 * r.width) (part * (2 * r.width)) (2 * (b + part * r.facts) - 2 * r.width)) lits) f is in
+      subst (λ (x : Repeats). slice_get (all_steps x) (part * length x.step + place) ≡ Some moved) v
+      (step_read r part place lits moved (subst (λ (x : Repeats). part < x.horizon) (sym v) lt) (subst (λ (x : Repeats). place < length x.step) (sym v) inside) at moved_is)
 
-  pub time_clause_is : (now : Repeats) (moved : List ℕ) → r ≡ now → count ≡ length r.time → number < (now.horizon + 1) * length now.time → slice_get r.time (number % count) ≡ Some lits → moved ≡ map (shifted 0 0 (2 * (first + number / count * r.facts))) lits → slice_get (all_times now) number ≡ Some moved
-  time_clause_is now moved v e lt at is =
-      let moved_is = subst (λ (b : ℕ). moved ≡ map (shifted 0 0 (2 * (b + number / count * r.facts))) lits) f is in
-      subst (λ (x : Repeats). slice_get (all_times x) number ≡ Some moved) v (time_read r number count lits moved e (subst (λ (x : Repeats). number < (x.horizon + 1) * length x.time) (sym v) lt) at moved_is)
+  pub time_clause_is : (now : Repeats) (place : ℕ) (moved : List ℕ) → r ≡ now → part < now.horizon + 1 → place < length now.time → slice_get r.time place ≡ Some lits → moved ≡ map (shifted 0 0 (2 * (first + part * r.facts))) lits → slice_get (all_times now) (part * length now.time + place) ≡ Some moved
+  time_clause_is now place moved v lt inside at is =
+      let moved_is = subst (λ (b : ℕ). moved ≡ map (shifted 0 0 (2 * (b + part * r.facts))) lits) f is in
+      subst (λ (x : Repeats). slice_get (all_times x) (part * length x.time + place) ≡ Some moved) v
+      (time_read r part place lits moved (subst (λ (x : Repeats). part < x.horizon + 1) (sym v) lt) (subst (λ (x : Repeats). place < length x.time) (sym v) inside) at moved_is)

@@ -5,6 +5,8 @@ pub mod Repeats
 pub mod Sizes
 pub mod View
 pub mod Joined
+pub mod Pairs
+pub mod PairRows
 pub mod Shared
 pub mod Derivation
 pub mod Choice

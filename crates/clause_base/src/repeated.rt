@@ -104,18 +104,18 @@ impl Repeated {
 
     /// The clauses of one step.
     #[inline]
-    pub fn step(&self) -> &ClauseList
+    pub fn step(&self) -> &SharedList
         ensures { result.now ≡ self.now.step }
     {
-        self.step.list()
+        &self.step
     }
 
     /// The clauses of one time.
     #[inline]
-    pub fn time(&self) -> &ClauseList
+    pub fn time(&self) -> &SharedList
         ensures { result.now ≡ self.now.time }
     {
-        self.time.list()
+        &self.time
     }
 
     /// The same clauses, in memory that their copies share.
@@ -176,35 +176,48 @@ impl Repeated {
         self.sizes.all
     }
 
-    /// The clause of a step.
+    /// The clause of a step with a place among the clauses of the step.
     #[inline(always)]
-    fn step_clause(&self, number: u32) -> View<'_>
+    pub fn step_clause(&self, step: u32, place: u32) -> View<'_>
+        requires step { step < self.now.horizon }
+        requires place { place < length self.now.step }
+        ensures { slice_get (all_steps self.now) (step * length self.now.step + place) ≡ Some result }
+    {
+        let limit = 2 * self.width;
+        let low = step * limit;
+        let high = 2 * (self.sizes.first + step * self.facts) - limit;
+        View::moved(self.step.clause(place as usize), limit, low, high)
+    }
+
+    /// The clause of a time with a place among the clauses of the time.
+    #[inline(always)]
+    fn time_clause(&self, time: u32, place: u32) -> View<'_>
+        requires time { time < self.now.horizon + 1 }
+        requires place { place < length self.now.time }
+        ensures { slice_get (all_times self.now) (time * length self.now.time + place) ≡ Some result }
+    {
+        let high = 2 * (self.sizes.first + time * self.facts);
+        View::moved(self.time.clause(place as usize), 0, 0, high)
+    }
+
+    /// The clause with a number among those of all steps.
+    #[inline(always)]
+    fn clause_of_steps(&self, number: u32) -> View<'_>
         requires { number < self.now.horizon * length self.now.step }
         ensures { slice_get (all_steps self.now) number ≡ Some result }
     {
         let count = self.sizes.per_step as u32;
-        let t = number / count;
-        let limit = 2 * self.width;
-        let low = t * limit;
-        let high = 2 * (self.sizes.first + t * self.facts) - limit;
-        View::moved(
-            self.step.clause((number % count) as usize),
-            limit,
-            low,
-            high,
-        )
+        self.step_clause(number / count, number % count)
     }
 
-    /// The clause of a time.
+    /// The clause with a number among those of all times.
     #[inline(always)]
-    fn time_clause(&self, number: u32) -> View<'_>
+    fn clause_of_times(&self, number: u32) -> View<'_>
         requires { number < (self.now.horizon + 1) * length self.now.time }
         ensures { slice_get (all_times self.now) number ≡ Some result }
     {
         let count = self.sizes.per_time as u32;
-        let t = number / count;
-        let high = 2 * (self.sizes.first + t * self.facts);
-        View::moved(self.time.clause((number % count) as usize), 0, 0, high)
+        self.time_clause(number / count, number % count)
     }
 
     /// The clause with this number: first come those of the steps, step after step, then those of the times.
@@ -219,9 +232,9 @@ impl Repeated {
         let _all = self.count();
         let steps = self.step_clauses();
         if number < steps {
-            self.step_clause(number)
+            self.clause_of_steps(number)
         } else {
-            self.time_clause(number - steps)
+            self.clause_of_times(number - steps)
         }
     }
 }

@@ -12,5 +12,4 @@ pub mod log;
 pub mod number;
 pub mod numbers;
 pub mod reader;
-mod step;
 mod steps;

@@ -1,27 +1,15 @@
 //! The bytes of entries.
 ghost use Rattle.std.specs.Prelude.{◌≡◌, ◌++◌, ◌<◌, ◌*◌, ◌^◌, length, map, take, All, IfOk, OnOk, OnErr};
-ghost use Rattle.clause_log.specs.Number.{bytes_of};
 ghost use Rattle.clause_log.specs.Numbers.{steps_of, numbers_of, after_numbers};
 ghost use Rattle.clause_base.specs.Clause.{IsClause};
 ghost use Rattle.clause_base.specs.declared.log.Entry.TheVariants.{Learn, Drop};
-ghost use Rattle.clause_log.specs.Held.{entry_bytes, log_bytes, AreFew, IsSmall, AreSmall};
+ghost use Rattle.clause_log.specs.Held.{entry_bytes, log_bytes, IsSmall, AreSmall};
 
 use crate::number::put_number;
 use crate::numbers::{MOST_STEP, put_numbers, put_step_within, take_step};
 use clause_base::literal::Lit;
 use clause_base::memory::Memory;
 use std::alloc::AllocError;
-
-/// Adds how many hints there are, and the hints. After want of memory the bytes that stood before still stand first.
-fn put_hints(steps: &mut Vec<u8>, hints: &[u32]) -> Result<(), AllocError>
-    ensures ok { OnOk result (steps.new.items ≡ steps.old.items ++ (bytes_of (2 * length hints.now) ++ steps_of 0 hints.now)) }
-    ensures small { OnOk result (All (λ n. n < 2 ^ 32) hints.now) }
-    ensures few { length hints.now < 2 ^ 62 }
-    ensures before { take (length steps.old.items) steps.new.items ≡ steps.old.items }
-{
-    put_number(steps, 2 * hints.len() as u64)?;
-    put_numbers(steps, hints)
-}
 
 /// Adds literals. After want of memory the bytes that stood before still stand first.
 fn put_literals(steps: &mut Vec<u8>, clause: &[Lit]) -> Result<(), AllocError>
@@ -60,26 +48,18 @@ pub fn take_literals<'a>(
     Ok(rest)
 }
 
-/// Adds how many literals there are, and the literals. After want of memory the bytes that stood before still stand first.
-fn put_clause(steps: &mut Vec<u8>, clause: &[Lit]) -> Result<(), AllocError>
-    ensures ok { OnOk result (steps.new.items ≡ steps.old.items ++ (bytes_of (length clause.now) ++ steps_of 0 clause.now)) }
-    ensures small { OnOk result (All (λ n. n < 2 ^ 32) clause.now) }
-    ensures few { length clause.now < 2 ^ 62 }
-    ensures before { take (length steps.old.items) steps.new.items ≡ steps.old.items }
-{
-    put_number(steps, clause.len() as u64)?;
-    put_literals(steps, clause)
-}
-
-/// Adds an entry that learns a clause. After want of memory the bytes that stood before still stand first.
+/// Adds an entry that learns a clause: how many hints there are, doubled, and the hints, then how many literals, and the literals. After
+/// want of memory the bytes that stood before still stand first.
 fn put_learned(steps: &mut Vec<u8>, clause: &[Lit], hints: &[u32]) -> Result<(), AllocError>
     requires { IsClause clause.now }
     ensures ok { OnOk result (steps.new.items ≡ steps.old.items ++ entry_bytes (Learn clause.now hints.now)) }
     ensures small { OnOk result (IsSmall (Learn clause.now hints.now)) }
     ensures before { take (length steps.old.items) steps.new.items ≡ steps.old.items }
 {
-    put_hints(steps, hints)?;
-    put_clause(steps, clause)
+    put_number(steps, 2 * hints.len() as u64)?;
+    put_numbers(steps, hints)?;
+    put_number(steps, clause.len() as u64)?;
+    put_literals(steps, clause)
 }
 
 /// Adds the numbers that entries drop. After want of memory the bytes that stood before still stand first.

@@ -1,9 +1,9 @@
 -- The pairs of blocks of clauses of one length, where all blocks but one or two have none.
 use Rattle.std.proofs.Common.{arith, ◌≡◌, ◌≢◌, ◌==◌, ℕ, zero, suc, ◌+◌, ◌*◌, ◌<◌, ◌≤◌, List, [], ◌++◌, length, Bool, true, false, refl, ap, ◌∙◌, append-nil, length-append}
 use Rattle.std.specs.List.{flat_map, range_with_len}
-use Rattle.clause_store.specs.declared.pair.Pair.{Pair}
-use Rattle.clause_store.specs.Pairs.{pairs_from}
-use Rattle.clause_store.proofs.Counts.{equal_of, apart_of}
+use Rattle.clause_base.specs.declared.pair.Pair.{Pair}
+use Rattle.clause_base.specs.Pairs.{pairs_from}
+use Rattle.clause_base.proofs.PairCounts.{equal_of, apart_of}
 use Rattle.clause_store.proofs.Shifts.{pairs_append}
 
 module _ (f : ℕ → List (List ℕ)) (long : ℕ) (even : (u : ℕ) → length (f u) ≡ long) (base x : ℕ) where

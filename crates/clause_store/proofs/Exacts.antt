@@ -2,10 +2,11 @@
 use Rattle.std.proofs.Common.{arith, ◌≡◌, ◌==◌, ℕ, zero, suc, ◌+◌, ◌<◌, ◌≤◌, List, [], ◌∷◌, ◌++◌, length, get_or, Bool, true, false, All, refl, sym, ap, ◌∙◌, subst, ◌⊎◌, inl, inr, length-append}
 use Rattle.std.proofs.lemmas.List.{get_or-append-add}
 use Rattle.std.proofs.lemmas.List.Elements.{All-nil, All-cons, All-head, All-tail, All-append, All-weaker, All-same, All-get_or}
-use Rattle.clause_store.specs.declared.pair.Pair.{Pair}
-use Rattle.clause_store.specs.Pairs.{pair_of, pairs_from, pairs_of, pair_in, no_pair, clause_in, IsPairOf, HasPair, IsInPairs, AreExact}
+use Rattle.clause_base.specs.declared.pair.Pair.{Pair}
+use Rattle.clause_base.specs.Pairs.{pair_of, pairs_from, pairs_of, pair_in, no_pair}
+use Rattle.clause_store.specs.Pairs.{clause_in, IsPairOf, HasPair, IsInPairs, AreExact}
 use Rattle.clause_store.specs.Lists.{AreWithin}
-use Rattle.clause_store.proofs.Counts.{equal_of, pair_first, pair_second, pair_neither}
+use Rattle.clause_base.proofs.PairCounts.{equal_of, pair_first, pair_second, pair_neither}
 use Rattle.clause_store.proofs.Shifts.{test_true}
 
 -- a pair has a literal and a number below these

@@ -2,8 +2,8 @@
 use Rattle.std.proofs.Common.{arith, ◌≡◌, ℕ, ◌+◌, ◌-◌, ◌<◌, ◌≤◌, List, ◌++◌, length, ltb, Bool, true, false, refl, sym, subst, length-append}
 use Rattle.std.proofs.lemmas.Bool.Decides.{nat_tests}
 use Rattle.std.proofs.lemmas.List.{get_or_append_left, get_or-append_right, get_or-append-add}
-use Rattle.clause_store.specs.declared.pair.Pair.{Pair}
-use Rattle.clause_store.specs.Pairs.{no_pair, pair_in}
+use Rattle.clause_base.specs.declared.pair.Pair.{Pair}
+use Rattle.clause_base.specs.Pairs.{no_pair, pair_in}
 
 abbrev pub EachPair : (Pair → Type 0) → List Pair → Type 0
 EachPair P list = (place : ℕ) → place < length list → P (pair_in list place)

@@ -1,6 +1,3 @@
-pub mod Counts
-pub mod Fills
-pub mod Tables
 pub mod Shifts
 pub mod Blocks
 pub mod Exacts
@@ -10,3 +7,5 @@ pub mod Five
 pub mod Shapes
 pub mod Movables
 pub mod Origins
+pub mod Linking
+pub mod ChainWalks

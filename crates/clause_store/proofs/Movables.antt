@@ -4,12 +4,12 @@ use Rattle.std.specs.Prelude.{nat_lt, if◌then◌else◌}
 use Rattle.std.proofs.lemmas.Bool.Decides.{nat_tests}
 use Rattle.std.proofs.Math.Nat.{mul-le-mul_right}
 use Rattle.clause_base.specs.Repeats.{moved_code}
-use Rattle.clause_store.specs.declared.pair.Pair.{Pair}
+use Rattle.clause_base.specs.declared.pair.Pair.{Pair}
 use Rattle.clause_store.specs.declared.list.Move.{Move}
 use Rattle.clause_store.specs.declared.shape.Shape.{Shape}
 use Rattle.clause_store.specs.Lists.{AreWithin, IsShape}
 use Rattle.clause_store.specs.Moved.{AreMovable}
-use Rattle.clause_store.specs.Pairs.{pairs_of, pair_in}
+use Rattle.clause_base.specs.Pairs.{pairs_of, pair_in}
 
 fact_moved : (f l : ℕ) → moved_code 0 0 f l ≡ 2 * f + l
 fact_moved f l = by (nat_lt l (2 * 0)) refl

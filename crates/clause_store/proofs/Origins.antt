@@ -1,7 +1,7 @@
 -- What the lists of a literal are by its origin.
 use Rattle.std.proofs.Common.{arith, ◌≡◌, ℕ, ◌+◌, ◌-◌, ◌*◌, ◌/◌, ◌<◌, ◌≤◌, List, [], ltb, true, false, if◌then◌else◌, sym, ap, ◌∙◌, subst}
 use Rattle.std.proofs.lemmas.Bool.Decides.{nat_tests}
-use Rattle.clause_store.specs.declared.pair.Pair.{Pair}
+use Rattle.clause_base.specs.declared.pair.Pair.{Pair}
 use Rattle.clause_store.specs.declared.shape.Shape.{Shape}
 use Rattle.clause_store.specs.declared.origin.Origin.{Origin}
 use Rattle.clause_store.specs.declared.origin.Origin.TheVariants.{Step, Time, Other}

@@ -3,13 +3,13 @@ use Rattle.std.proofs.Common.{arith, ◌≡◌, ◌≢◌, ◌==◌, ℕ, suc, �
 use Rattle.std.proofs.lemmas.Bool.Decides.{nat_tests}
 use Rattle.std.proofs.lemmas.List.{append_assoc, map-append}
 use Rattle.std.proofs.lemmas.List.Elements.{All-head, All-tail}
-use Rattle.clause_store.specs.declared.pair.Pair.{Pair}
+use Rattle.clause_base.specs.declared.pair.Pair.{Pair}
 use Rattle.clause_store.specs.declared.list.Move.{Move}
-use Rattle.clause_store.specs.Pairs.{pair_of, pairs_from}
+use Rattle.clause_base.specs.Pairs.{pair_of, pairs_from}
 use Rattle.clause_base.specs.Repeats.{moved_code}
 use Rattle.clause_store.specs.Moved.{moved_pair}
 use Rattle.clause_store.specs.Lists.{plain_move}
-use Rattle.clause_store.proofs.Counts.{equal_of, apart_of, pair_first, pair_second, pair_neither}
+use Rattle.clause_base.proofs.PairCounts.{equal_of, apart_of, pair_first, pair_second, pair_neither}
 
 pub test_false : (a b : ℕ) → a ≢ b → (a == b) ≡ false
 test_false a b ne = grind (arith, nat_tests)

@@ -5,13 +5,14 @@ use Rattle.std.proofs.lemmas.Bool.Decides.{nat_tests}
 use Rattle.std.proofs.lemmas.List.{append_assoc, length-map, get_or_past}
 use Rattle.std.proofs.lemmas.List.Elements.{All-nil, All-cons, All-head, All-tail}
 use Rattle.std.proofs.lemmas.List.FromFn.{get_or-map-range_with_len, length-map-range_with_len}
-use Rattle.clause_store.specs.declared.pair.Pair.{Pair}
+use Rattle.clause_base.specs.declared.pair.Pair.{Pair}
 use Rattle.clause_store.specs.declared.shape.Shape.{Shape}
-use Rattle.clause_store.specs.Pairs.{pairs_of, pairs_from, IsIndex}
+use Rattle.clause_base.specs.Pairs.{pairs_of, pairs_from}
+use Rattle.clause_store.specs.Pairs.{IsIndex}
 use Rattle.clause_base.specs.Repeats.{Repeats, step_part, time_part}
 use Rattle.clause_store.specs.Moved.{moved_pair}
 use Rattle.clause_store.specs.Lists.{IsShape, AreParts, facts_begin, facts_end, step_move, time_move, plain_move, after_all, moved_list, last_list, next_list, time_list, all_lists, index_of, clauses_of}
-use Rattle.clause_store.proofs.Tables.{pairs_past}
+use Rattle.clause_base.proofs.PairTables.{pairs_past}
 use Rattle.clause_store.proofs.Shifts.{IsFrom, IsFromNone, pairs_moved, pairs_none, pairs_plain, pairs_append}
 use Rattle.clause_store.proofs.Blocks.{blocks_none, blocks_one, blocks_two, blocks_long}
 use Rattle.clause_store.proofs.Steps.{IsAtTime, own_from, own_not, own_no_time, next_from, last_from, fact_not, time_from, time_not, past_step, past_time, in_step_of, at_time_of}

@@ -2,10 +2,10 @@
 -- fact is, of its time, and of the clauses after all of these.
 use Rattle.std.specs.Prelude.{◌≡◌, ℕ, ◌+◌, ◌-◌, ◌*◌, ◌/◌, ◌%◌, ◌<◌, ◌≤◌, nat_lt, if◌then◌else◌, List, [], ◌++◌, map, length, All}
 use Rattle.std.specs.List.{range_with_len}
-use Rattle.clause_store.specs.declared.pair.Pair.{Pair}
+use Rattle.clause_base.specs.declared.pair.Pair.{Pair}
 use Rattle.clause_store.specs.declared.list.Move.{Move}
 use Rattle.clause_store.specs.declared.shape.Shape.{Shape}
-use Rattle.clause_store.specs.Pairs.{pairs_of, pair_in}
+use Rattle.clause_base.specs.Pairs.{pairs_of, pair_in}
 use Rattle.clause_base.specs.Repeats.{Repeats, repeated}
 use Rattle.clause_store.specs.Moved.{moved_pair}
 

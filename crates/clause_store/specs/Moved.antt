@@ -1,8 +1,8 @@
 -- Pairs of one step or one time, moved.
 use Rattle.std.specs.Prelude.{ℕ, ◌+◌, ◌<◌, ◌≤◌, List, length}
-use Rattle.clause_store.specs.declared.pair.Pair.{Pair}
+use Rattle.clause_base.specs.declared.pair.Pair.{Pair}
 use Rattle.clause_store.specs.declared.list.Move.{Move}
-use Rattle.clause_store.specs.Pairs.{pair_in}
+use Rattle.clause_base.specs.Pairs.{pair_in}
 use Rattle.clause_base.specs.Repeats.{moved_code}
 
 -- a pair whose literal is moved, and whose number is counted from a first one

@@ -1,6 +1,6 @@
 -- Of which step or time a literal is, and the five lists of its pairs.
 use Rattle.std.specs.Prelude.{◌≡◌, ℕ, ◌-◌, ◌*◌, ◌/◌, ◌%◌, ◌<◌, ◌≤◌, List, []}
-use Rattle.clause_store.specs.declared.pair.Pair.{Pair}
+use Rattle.clause_base.specs.declared.pair.Pair.{Pair}
 use Rattle.clause_store.specs.declared.shape.Shape.{Shape}
 use Rattle.clause_store.specs.declared.origin.Origin.{Origin}
 use Rattle.clause_store.specs.declared.origin.Origin.TheVariants.{Step, Time, Other}

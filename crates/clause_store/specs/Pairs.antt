@@ -1,33 +1,11 @@
 -- Clauses of two literals, each of which is in the list of both.
-use Rattle.std.specs.Prelude.{◌≡◌, ℕ, ◌+◌, ◌*◌, ◌==◌, ◌<◌, ◌⊎◌, List, [], ◌∷◌, ◌++◌, length, slice_get, slice_index_or, unwrap_or, if◌then◌else◌}
-use Rattle.clause_store.specs.declared.pair.Pair.{Pair}
-
--- a pair past the end of a list
-abbrev pub no_pair : Pair
-no_pair = record { other = 0; number = 0 }
-
--- the pairs of a literal, and one of them by its place
-abbrev pub pairs_of : List (List Pair) → ℕ → List Pair
-pairs_of pairs code = slice_index_or pairs code []
-
-abbrev pub pair_in : List Pair → ℕ → Pair
-pair_in list place = slice_index_or list place no_pair
+use Rattle.std.specs.Prelude.{◌≡◌, ℕ, ◌*◌, ◌<◌, ◌⊎◌, List, [], ◌∷◌, length, slice_get, unwrap_or}
+use Rattle.clause_base.specs.declared.pair.Pair.{Pair}
+use Rattle.clause_base.specs.Pairs.{pair_in, pairs_from, pairs_of}
 
 -- the clause with this number, or the empty one where there is none
 abbrev pub clause_in : List (List ℕ) → ℕ → List ℕ
 clause_in clauses number = unwrap_or (slice_get clauses number) []
-
--- the pair that a clause with a number gives a literal: the other literal, where it has two of which this is one
-abbrev pub pair_of : ℕ → ℕ → List ℕ → List Pair
-pair_of number x [] = []
-pair_of number x (a ∷ []) = []
-pair_of number x (a ∷ b ∷ []) = if a == x then (record { other = b; number = number }) ∷ [] else if b == x then (record { other = a; number = number }) ∷ [] else []
-pair_of number x (a ∷ b ∷ c ∷ clause) = []
-
--- the pairs that clauses give a literal, in the order of their numbers, of which the first clause's is given
-abbrev pub pairs_from : ℕ → ℕ → List (List ℕ) → List Pair
-pairs_from number x [] = []
-pairs_from number x (clause ∷ clauses) = pair_of number x clause ++ pairs_from (number + 1) x clauses
 
 -- a literal has the pair of a clause with this number and this other literal
 pub record HasPair (pairs : List (List Pair)) (code other number : ℕ) : Type 0 where

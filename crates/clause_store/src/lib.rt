@@ -1,15 +1,14 @@
-//! The clauses of a solver, by number and by literal.
+//! Where a solver finds its clauses: by number, and by the literals that become false.
 //!
 //! `store` has the clauses by number: those of the formula are read where they stand in it, the others are its own. `index` has the
-//! clauses of two literals of a formula by literal: those of one step and of one time stand in tables once.
+//! clauses of two literals of a formula by literal: those of one step and of one time stand in tables once. `chains` has for each
+//! literal the clauses that watch it, as chains of nodes that are moved from one to another without memory.
 #![tactic(auto)]
 
-mod build;
+pub mod chains;
 pub mod index;
 pub mod list;
 pub mod lists;
 pub mod origin;
-pub mod pair;
 mod shape;
 pub mod store;
-mod table;

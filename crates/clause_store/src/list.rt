@@ -1,10 +1,10 @@
 //! Pairs of a literal of one step or one time, moved.
 ghost use Rattle.std.specs.Prelude.{◌≡◌, ◌+◌, ◌<◌, ◌≤◌, length, map};
-ghost use Rattle.clause_store.specs.Pairs.{pair_in};
+ghost use Rattle.clause_base.specs.Pairs.{pair_in};
 ghost use Rattle.clause_base.specs.Repeats.{moved_code};
 ghost use Rattle.clause_store.specs.Moved.{moved_pair, AreMovable};
 
-use crate::pair::Pair;
+use clause_base::pair::Pair;
 use std::marker::Model;
 
 /// Where the pairs of one step or one time go.
@@ -29,7 +29,7 @@ pub struct PairList<'a> {
 
 impl<'a> Model for PairList<'a> {
     ghost use Rattle.std.specs.Prelude.{List, map};
-    ghost use Rattle.clause_store.specs.declared.pair.Pair.{Pair};
+    ghost use Rattle.clause_base.specs.declared.pair.Pair.{Pair};
     ghost use Rattle.clause_store.specs.Moved.{moved_pair, AreMovable};
 
     ghost Value = { List Pair };

@@ -1,7 +1,7 @@
 -- Which clauses are kept after a log that learns one more, or drops some.
-use Rattle.std.proofs.Common.{arith, ◌≡◌, ◌==◌, ℕ, zero, suc, ◌+◌, List, [], ◌∷◌, ◌++◌, map, length, set, Bool, true, false, not, ◌||◌, ◌&&◌, refl, sym, ap, ◌∙◌, replicate, length-append, length-set, get_or-set_other}
+use Rattle.std.proofs.Common.{arith, ◌≡◌, ◌==◌, ℕ, ◌+◌, List, [], ◌∷◌, ◌++◌, map, length, set, Bool, true, false, not, ◌||◌, ◌&&◌, refl, sym, ap, ◌∙◌, replicate, length-append, length-set}
 use Rattle.std.specs.List.{list_any, fold}
-use Rattle.std.proofs.Math.Bool.{and-true, and-false, and_assoc}
+use Rattle.std.proofs.Math.Bool.{and-true, and_assoc}
 use Rattle.std.proofs.lemmas.List.{length-replicate, length_push}
 use Rattle.std.proofs.lemmas.List.Sums.{fold-append, fold_push}
 use Rattle.std.proofs.lemmas.List.Folds.{fold-map}
@@ -11,7 +11,7 @@ use Rattle.clause_base.specs.declared.log.Entry.TheVariants.{Learn, Drop}
 use Rattle.clause_base.specs.Derivation.{clauses_of}
 use Rattle.cdcl_rules.specs.State.{is_kept}
 use Rattle.cdcl_rules.specs.Reduce.{kept_without}
-use Rattle.cdcl_rules.proofs.Tests.{apart, same_test, test_same}
+use Rattle.cdcl_rules.proofs.Tests.{set_flag}
 use Rattle.conflict_walk.specs.Clauses.{ClausesView, kept_after, kept_of}
 
 -- the clauses by their formula and log
@@ -51,27 +51,15 @@ length_kept f log =
     ∙ ap (λ (m : ℕ). m + length (clauses_of log)) (length-replicate (length f.clauses) true)
     ∙ sym (length-append f.clauses (clauses_of log))
 
--- a clause is kept where it was and is not dropped
-dropped_flag : (kept : List Bool) (n : ℕ) → is_kept (set kept n false) n ≡ false
-dropped_flag [] n = refl
-dropped_flag (b ∷ kept) zero = refl
-dropped_flag (b ∷ kept) (suc n) = dropped_flag kept n
-
-without_one : (kept : List Bool) (n k : ℕ) → is_kept (set kept n false) k ≡ (is_kept kept k && not (n == k))
-without_one kept n k = by (n == k) refl
-  where
-    by : (b : Bool) → (n == k) ≡ b → is_kept (set kept n false) k ≡ (is_kept kept k && not b)
-    by true f = ap (is_kept (set kept n false)) (sym (test_same n k f)) ∙ dropped_flag kept n ∙ sym (and-false (is_kept kept k))
-    by false f = get_or-set_other kept n k false false (λ g. apart (n == k) (same_test n k (sym g)) f) ∙ sym (and-true (is_kept kept k))
-
 neither : (a b : Bool) → (not a && not b) ≡ not (a || b)
 neither true b = refl
 neither false b = refl
 
+-- a clause is kept where it was and is not dropped
 pub without : (kept : List Bool) (ns : List ℕ) (k : ℕ) → is_kept (kept_without kept ns) k ≡ (is_kept kept k && not (list_any (λ n. n == k) ns))
 without kept [] k = sym (and-true (is_kept kept k))
 without kept (n ∷ ns) k =
     without (set kept n false) ns k
-    ∙ ap (λ (b : Bool). b && not (list_any (λ m. m == k) ns)) (without_one kept n k)
+    ∙ ap (λ (b : Bool). b && not (list_any (λ m. m == k) ns)) (set_flag kept n k)
     ∙ and_assoc (is_kept kept k) (not (n == k)) (not (list_any (λ m. m == k) ns))
     ∙ ap (λ (b : Bool). is_kept kept k && b) (neither (n == k) (list_any (λ m. m == k) ns))

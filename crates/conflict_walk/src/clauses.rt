@@ -1,6 +1,6 @@
 //! A solver's clauses by number: first come the formula's, then those that the log learns. Whoever wants the literals of a
 //! learned clause reads them in the store of what is watched.
-ghost use Rattle.std.specs.Prelude.{◌≡◌, ◌<◌, ◌≤◌, ◌==◌, ◌∷◌, [], ◌++◌, true, not, map, filter, length, replicate, vec_capacity, if◌then◌else◌, IsOk, IfOk, OnOk, OnErr};
+ghost use Rattle.std.specs.Prelude.{◌≡◌, ◌<◌, ◌≤◌, ◌==◌, ◌∷◌, [], ◌++◌, true, not, map, filter, length, replicate, vec_capacity, if◌then◌else◌, IsOk, OnOk, OnErr};
 ghost use Rattle.std.specs.List.{list_any};
 ghost use Rattle.clause_base.specs.Clause.{IsClause, IsRising};
 ghost use Rattle.clause_base.specs.Derivation.{clauses_of};
@@ -77,15 +77,15 @@ fn keep_longs(longs: &mut Vec<u32>, dropped: &[u32])
 }
 
 impl Clauses {
-    /// The clauses of a formula, all kept.
-    pub fn new(alloc: Global, formula: Formula) -> Result<Clauses, Memory>
-        ensures { IfOk result (λ c. c ≡ record { formula = formula; log = []; kept = replicate (length formula.clauses) true }) }
+    /// The clauses of a formula, all kept. It takes no memory.
+    pub fn new(alloc: Global, formula: Formula) -> Clauses
+        ensures { result ≡ record { formula = formula; log = []; kept = replicate (length formula.clauses) true } }
     {
-        Ok(Clauses {
+        Clauses {
             formula,
             log: Log::new(alloc),
             longs: Vec::new(alloc),
-        })
+        }
     }
 
     /// The formula.

@@ -6,8 +6,9 @@ ghost use Rattle.bit_sets.specs.Layered.{words_have};
 ghost use Rattle.conflict_walk.specs.{Resolvent.literals, Resolvent.seen, Resolvent.is_marked, Resolvent.AreMarks, Resolvent.IsClear, Resolvent.IsLatest, Walk.OthersFalse};
 
 use crate::latest::{has_mark, latest};
-use crate::order::{Codes, put_code};
+use crate::order::Codes;
 use bit_sets::flat::{clear_bit, set_bit};
+use bit_sets::set::NumberSet;
 use cdcl_trail::lookup::Lookup;
 use clause_base::literal::Lit;
 use clause_base::memory::Memory;
@@ -169,7 +170,8 @@ impl Resolvent {
         while let Some(position) = latest(self.marks.as_slice(), bound) {
             clear_bit(&mut self.marks, position);
             let entry = entries[position as usize];
-            put_code(codes, entry.literal.opposite());
+            let lit = entry.literal.opposite();
+            codes.insert(lit.0);
             bound = position;
         }
         self.count = 0;

@@ -1,17 +1,17 @@
 -- Numbers and effects that are sorted, each once, are the sorted sets of the definitions.
 use Rattle.std.proofs.Common.{rules, arith, ◌≡◌, ℕ, zero, suc, ◌<◌, ◌==◌, List, [], ◌∷◌, Bool, true, false, cond, ◌&&◌, ◌||◌, refl, ap, sym, ◌∙◌, subst, map, length, inl, inr, IsTrue}
-use Rattle.std.specs.Prelude.{nat_lt, nat_eq, slice_index_or}
-use Rattle.std.specs.List.{list_any, dedup, Contains, AllByRecursion}
+use Rattle.std.specs.Prelude.{nat_lt, nat_eq, slice_index_or, Option, Some, ◌+◌}
+use Rattle.std.specs.List.{list_any, dedup, Contains, AllByRecursion, IsAllAdjacentAnswer}
 use Rattle.std.specs.List.Sorted.{IsStrictlySortedBy, IsPermutation}
 use Rattle.std.specs.List.Sorted as sort
 use Rattle.std.specs.declared.cmp.Ordering.{Ordering}
 use Rattle.std.specs.declared.cmp.Ordering.TheVariants.{Less, Equal, Greater}
-use Rattle.std.specs.Ordering.{is_eq, is_lt, ordering_then, nat_cmp}
-use Rattle.std.specs.Cmp.{IsTotalOrder, IsEquivalence, nat_cmp_total, nat_eq_equiv, unsigned_ties}
+use Rattle.std.specs.Ordering.{is_eq, is_lt, is_le, is_some_and, ordering_then, partial_ordering_then, ordering_reverse, nat_cmp}
+use Rattle.std.specs.Cmp.{IsTotalOrder, IsEquivalence, Agrees, then_agrees, nat_cmp_total, nat_eq_equiv, unsigned_ties}
 use Rattle.std.specs.Cmp.Rules.{comparing}
-use Rattle.std.specs.Cmp.Lexicographic.{slice_cmp, texts_ties}
+use Rattle.std.specs.Cmp.Lexicographic.{slice_cmp, slice_partial_cmp, lists_agrees, texts_ties}
 use Rattle.std.specs.Str.{bytes_eq as same_numbers}
-use Rattle.std.proofs.lemmas.Bool.{and_parts, and_from, eqb-true, eq-eqb}
+use Rattle.std.proofs.lemmas.Bool.{and_parts, and_from, eqb-true, eq-eqb, false≢true}
 use Rattle.std.proofs.lemmas.Slice.Eq.{bytes_eq-Decides}
 use Rattle.std.proofs.lemmas.List.Kept.{Any-dedup, Contains-from_dedup, IsStrictlySortedBy-dedup}
 use Rattle.std.proofs.lemmas.List.Sorted.{Contains-permutation, IsPermutation-sym}
@@ -140,3 +140,22 @@ effects_sorted old ordered new permuted order is =
     let h = map_among effect_at old e a in
     let l = was_left same_key equivalence old ordered new permuted is h.0 h.1 in
     subst (λ (d : Effect). Among d (effects_at new)) (sym (h.2 ∙ key_is h.0 l.0 l.2)) (among_map effect_at new l.0 l.1))
+
+abbrev pub key_partial_cmp : Keyed → Keyed → Option Ordering
+key_partial_cmp k l = partial_ordering_then (Some (nat_cmp k.literal l.literal)) (slice_partial_cmp (λ x y. Some (nat_cmp x y)) k.condition.items l.condition.items)
+
+agree : Agrees key_partial_cmp key_cmp
+agree = then_agrees (λ k l. refl) (λ k l. lists_agrees (λ x y. refl) k.condition.items l.condition.items)
+
+-- effects of which none is greater than the next one are in order
+pub in_order_already : (keys : List Keyed) (r : Bool) → IsAllAdjacentAnswer (λ x y b. is_some_and is_le (key_partial_cmp x y) ≡ b) keys r → r ≡ true → sort.IsSorted key_cmp keys
+in_order_already keys false h e = absurd (false≢true e)
+in_order_already keys true h e = λ k d from below.
+    let x = slice_index_or keys k d in
+    let y = slice_index_or keys (k + 1) d in
+    not_before (key_cmp y x) (key_cmp x y) (total.antisymm y x) (sym (ap (is_some_and is_le) (agree x y)) ∙ h k d below)
+  where
+    not_before : (back forth : Ordering) → back ≡ ordering_reverse forth → is_le forth ≡ true → is_lt back ≡ false
+    not_before back Less e t = ap is_lt e
+    not_before back Equal e t = ap is_lt e
+    not_before back Greater e t = absurd (false≢true t)

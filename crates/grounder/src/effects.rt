@@ -79,7 +79,9 @@ fn in_order(effects: Vec<Keyed>) -> Vec<Keyed>
     ensures { effects_at result.items ≡ sorted_set effect_less (effects_at effects.items) }
 {
     let mut effects = effects;
-    effects.sort_unstable();
+    if !effects.is_sorted() {
+        effects.sort_unstable();
+    }
     effects.dedup();
     effects
 }
@@ -90,7 +92,7 @@ fn effects_in(alloc: Global, all: Vec<Keyed>) -> Result<Effs, Memory>
 {
     let mut effects = Vec::with_capacity(alloc, all.len())?;
     for key in all {
-        effects.push(Eff::new(Lits::of(key.condition), key.literal))?;
+        effects.push(Eff::new(alloc, Lits::of(key.condition), key.literal)?)?;
     }
     Ok(Effs::of(effects))
 }

@@ -1,5 +1,6 @@
 pub mod Literal
 pub mod Task
+pub mod Kinds
 pub mod Lawful
 pub mod Active
 pub mod Execution

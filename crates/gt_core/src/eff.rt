@@ -1,41 +1,79 @@
 //! The effects of an action.
+ghost use Rattle.std.specs.Prelude.{◌≡◌, [], IfOk};
 
 use crate::lits::Lits;
-use containers::ListOf;
+use containers::{ListOf, let_go};
+use std::alloc::{AllocError, Global};
 use std::marker::Model;
 
-/// An effect: its literal comes true where the literals of its condition hold. An even literal adds its fact, an
-/// odd one deletes it. An effect is conditional where its condition is not empty.
+/// A condition and the literal that comes true under it.
 #[derive(Drop)]
-pub struct Eff {
+struct Conditional {
     cond: Lits,
     lit: u32,
 }
 
+/// What an effect is. One without a condition takes no memory of its own.
+#[derive(Drop)]
+enum Kind {
+    Sure(u32),
+    When(Box<Conditional>),
+}
+
+/// An effect: its literal comes true where the literals of its condition hold. An even literal adds its fact, an
+/// odd one deletes it. An effect is conditional where its condition is not empty.
+pub struct Eff {
+    kind: Kind,
+}
+
 impl Model for Eff {
     ghost use Rattle.gt_core.specs.Task.{Effect};
+    ghost use Rattle.gt_core.specs.Kinds.{effect_held};
 
     ghost Value = { Effect };
 
-    ghost view = { λ e. record { condition = e.cond; literal = e.lit } };
+    ghost view = { λ e. effect_held e.kind };
+}
+
+/// Letting one go is one call, in which its parts go: whoever holds one proves one step.
+impl Drop for Eff {
+    fn drop(self) {
+        let_go!(self: Eff { kind });
+    }
 }
 
 impl Eff {
-    ghost use Rattle.std.specs.Prelude.{◌≡◌};
     ghost use Rattle.gt_core.specs.Lawful.{is_conditional};
 
-    /// The effect with this condition and this literal.
-    pub fn new(cond: Lits, lit: u32) -> Eff
-        ensures { result ≡ record { condition = cond; literal = lit } }
+    /// The effect without a condition that makes this literal true. It takes no memory.
+    pub fn sure(lit: u32) -> Eff
+        ensures { result ≡ record { condition = []; literal = lit } }
     {
-        Eff { cond, lit }
+        Eff {
+            kind: Kind::Sure(lit),
+        }
+    }
+
+    /// The effect with this condition and this literal.
+    pub fn new(alloc: Global, cond: Lits, lit: u32) -> Result<Eff, AllocError>
+        ensures { IfOk result (λ e. e ≡ record { condition = cond; literal = lit }) }
+    {
+        if cond.as_slice().is_empty() {
+            return Ok(Eff::sure(lit));
+        }
+        Ok(Eff {
+            kind: Kind::When(Box::new(alloc, Conditional { cond, lit })?),
+        })
     }
 
     /// The literals that have to hold.
     pub fn cond(&self) -> &[u32]
         ensures { result.now ≡ self.now.condition }
     {
-        self.cond.as_slice()
+        match &self.kind {
+            Kind::Sure(_) => &[],
+            Kind::When(when) => when.cond.as_slice(),
+        }
     }
 
     /// Whether there is a condition.
@@ -49,7 +87,10 @@ impl Eff {
     pub fn lit(&self) -> u32
         ensures { result ≡ self.now.literal }
     {
-        self.lit
+        match &self.kind {
+            Kind::Sure(lit) => *lit,
+            Kind::When(when) => when.lit,
+        }
     }
 }
 

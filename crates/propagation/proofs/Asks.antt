@@ -9,12 +9,12 @@ use Rattle.clause_base.specs.Clause.{has_literal}
 use Rattle.cdcl_rules.specs.Pending.{is_pending}
 use Rattle.bit_sets.specs.Layered.{IsLeast}
 use Rattle.cdcl_trail.proofs.Assignments.{has-snoc}
-use Rattle.clause_store.specs.declared.pair.Pair.{Pair}
+use Rattle.clause_base.specs.declared.pair.Pair.{Pair}
 use Rattle.propagation.specs.Pending.{is_free, is_pending_on}
 use Rattle.propagation.specs.Asks.{IsUnit, IsAsk, IsConsistent}
 use Rattle.cdcl_rules.specs.State.{clause_at}
 use Rattle.propagation.specs.Visit.{Grows, IsFit}
-use Rattle.clause_store.specs.Pairs.{pair_in}
+use Rattle.clause_base.specs.Pairs.{pair_in}
 use Rattle.propagation.specs.Added.{Outlasts}
 use Rattle.propagation.proofs.Filters.{clause_is, tests_one, count_one, count_some, count_two, any_from_has, has_get, pending_at}
 use Rattle.propagation.proofs.Assigns.{equal_of, apart_of, opposite_twice, not_false, true_in_take}

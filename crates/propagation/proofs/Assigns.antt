@@ -9,7 +9,7 @@ use Rattle.clause_base.specs.Clause.{has_literal}
 use Rattle.std.specs.Option.{is_some}
 use Rattle.bit_sets.specs.Layered.{IsLeast}
 use Rattle.cdcl_trail.proofs.Assignments.{has-snoc}
-use Rattle.watch_chains.specs.declared.chains.Node.{Node}
+use Rattle.clause_store.specs.declared.chains.Node.{Node}
 use Rattle.propagation.specs.Pending.{is_free, has_two_free, is_pending_on}
 use Rattle.cdcl_rules.specs.Pending.{is_pending}
 use Rattle.cdcl_rules.specs.State.{clause_at}

@@ -6,8 +6,8 @@ use Rattle.std.proofs.lemmas.List.{take_all}
 use Rattle.std.proofs.lemmas.List.Elements.{All-get_or}
 use Rattle.clause_base.specs.Clause.{has_literal, IsClause, HasVariablesBelow}
 use Rattle.cdcl_rules.specs.Pending.{is_pending}
-use Rattle.watch_chains.specs.declared.chains.Node.{Node}
-use Rattle.watch_chains.specs.Linked.{IsLinked, ArePairLoose, blocking_of, placed}
+use Rattle.clause_store.specs.declared.chains.Node.{Node}
+use Rattle.clause_store.specs.Linked.{IsLinked, ArePairLoose, blocking_of, placed}
 use Rattle.bit_sets.specs.Layered.{words_have}
 use Rattle.propagation.specs.declared.pending.Pending.{Pending}
 use Rattle.propagation.specs.declared.enter.Entered.{Entered}

@@ -6,11 +6,12 @@ use Rattle.std.proofs.lemmas.List.Filters.{length-filter_both}
 use Rattle.clause_base.specs.Literal.{opposite}
 use Rattle.clause_base.specs.Clause.{has_literal}
 use Rattle.cdcl_rules.specs.Pending.{is_pending}
-use Rattle.clause_store.specs.declared.pair.Pair.{Pair}
+use Rattle.clause_base.specs.declared.pair.Pair.{Pair}
 use Rattle.propagation.specs.Pending.{is_free, has_two_free, is_pending_on}
 use Rattle.cdcl_rules.specs.State.{clause_at}
 use Rattle.propagation.specs.Visit.{slot_clauses, slot_flags, slot_set, Grows}
-use Rattle.clause_store.specs.Pairs.{pairs_of, pair_in, IsInPairs}
+use Rattle.clause_base.specs.Pairs.{pairs_of, pair_in}
+use Rattle.clause_store.specs.Pairs.{IsInPairs}
 use Rattle.propagation.specs.Pairs.{IsUnwatched, HasSlot, IsPaired}
 use Rattle.propagation.proofs.Filters.{pending_at, tests_one}
 use Rattle.propagation.proofs.Assigns.{pending_parts, pending_earlier}

@@ -10,9 +10,9 @@ use Rattle.clause_base.specs.Clause.{IsClause, HasVariablesBelow, has_literal}
 use Rattle.cdcl_rules.specs.Pending.{is_pending}
 use Rattle.cdcl_rules.specs.State.{clause_at}
 use Rattle.bit_sets.specs.Layered.{words_have}
-use Rattle.clause_store.specs.declared.pair.Pair.{Pair}
+use Rattle.clause_base.specs.declared.pair.Pair.{Pair}
 use Rattle.clause_store.specs.Pairs.{IsIndex}
-use Rattle.watch_chains.specs.Linked.{IsLinked}
+use Rattle.clause_store.specs.Linked.{IsLinked}
 use Rattle.propagation.specs.declared.given.Given.{Given}
 use Rattle.propagation.specs.declared.pending.Pending.{Pending}
 use Rattle.propagation.specs.declared.tables.Tables.{Tables}
@@ -23,6 +23,7 @@ use Rattle.propagation.specs.Given.{AreGiven, AreRising, IsBeside}
 use Rattle.propagation.specs.Pairs.{HasSlot, IsUnwatched, IsPaired}
 use Rattle.propagation.specs.Visit.{slot_clauses, slot_flags, AreSlotsBelow, IsFit, IsReal}
 use Rattle.propagation.specs.Sound.{AreSound}
+use Rattle.propagation.specs.Steps.{AreStepped}
 use Rattle.propagation.proofs.Filters.{clause_is, clause_past, none_lawful, pending_off}
 use Rattle.propagation.proofs.Assigns.{equal_of, apart_of, at_most_of, past_of}
 use Rattle.propagation.proofs.Adds.{kept_in}
@@ -250,8 +251,8 @@ take_none (suc n) l = refl
 
 pub sound_given : (v : ℕ) (t : Tables) (g : Given) (trail : List ℕ) (quiet : List Bool) → v ≤ 2147483647 → length t.store ≤ 1073741824
     → IsFit t.store (2 * v) → t.kept.items ≡ replicate (length t.store) true → t.slots.items ≡ g.slots.items → trail ≡ []
-    → AreGiven (2 * v) t.store (length t.store) g → length quiet ≡ v + 1 → AreSound v t g.lists trail quiet
-sound_given v t g trail quiet small few fit ek es et i size = record {
+    → AreGiven (2 * v) t.store (length t.store) g → length quiet ≡ v + 1 → AreStepped t.store t.slots.items t.steps → AreSound v t g.lists trail quiet
+sound_given v t g trail quiet small few fit ek es et i size steps = record {
   small = small;
   tables = record {
     limit = omega (arith, small);
@@ -260,6 +261,7 @@ sound_given v t g trail quiet small few fit ek es et i size = record {
     kept = ap (λ (ks : List Bool). length ks) ek ∙ long_flags (length t.store);
     slotted = rw es i.slotted;
     few = rw es (omega (arith, i.few, few));
+    steps = steps;
   };
   few = omega (arith, few);
   slots_few = rw es i.few;

@@ -3,7 +3,7 @@ use Rattle.std.proofs.Common.{arith, ◌≡◌, ℕ, ◌<◌, List, Bool, true, 
 use Rattle.clause_base.specs.Clause.{has_literal}
 use Rattle.cdcl_rules.specs.State.{clause_at}
 use Rattle.bit_sets.specs.Layered.{words_have}
-use Rattle.watch_chains.specs.declared.chains.Node.{Node}
+use Rattle.clause_store.specs.declared.chains.Node.{Node}
 use Rattle.propagation.specs.declared.pending.Pending.{Pending}
 use Rattle.propagation.specs.Asks.{HasAsks, IsConsistent, IsWithout}
 use Rattle.propagation.specs.Pending.{is_pending_on}

@@ -9,6 +9,8 @@ pub mod Wider
 pub mod Enters
 pub mod Paired
 pub mod Slotted
+pub mod Templates
+pub mod Stepped
 pub mod Sounds
 pub mod Founds
 pub mod Asks
@@ -17,5 +19,4 @@ pub mod Gone
 pub mod Scans
 pub mod Fronts
 pub mod Givens
-pub mod Templates
 pub mod Knowns

@@ -7,8 +7,9 @@ use Rattle.std.proofs.lemmas.List.{get_or_push, get_or_append_left, length_push}
 use Rattle.clause_base.specs.Literal.{opposite}
 use Rattle.clause_base.specs.Clause.{has_literal}
 use Rattle.propagation.specs.declared.visit.Lists.{Lists}
-use Rattle.clause_store.specs.declared.pair.Pair.{Pair}
-use Rattle.clause_store.specs.Pairs.{pairs_of, pair_in, HasPair, IsInPairs, IsPairOf, AreExact}
+use Rattle.clause_base.specs.declared.pair.Pair.{Pair}
+use Rattle.clause_base.specs.Pairs.{pairs_of, pair_in}
+use Rattle.clause_store.specs.Pairs.{HasPair, IsInPairs, IsPairOf, AreExact}
 use Rattle.propagation.specs.Pending.{is_free, has_two_free}
 use Rattle.cdcl_rules.specs.State.{clause_at}
 use Rattle.propagation.specs.Asks.{IsAsk}

@@ -40,21 +40,22 @@ none_by a false h e = refl
 
 -- the tables with other flags
 tables_removed : (t t' : Tables) (codes n : ℕ) → AreTables t codes → t'.store ≡ t.store → t'.slots.items ≡ t.slots.items
-    → t'.kept.items ≡ set t.kept.items n false → AreTables t' codes
-tables_removed t t' codes n i store slots kept = record {
+    → t'.kept.items ≡ set t.kept.items n false → t'.steps ≡ t.steps → AreTables t' codes
+tables_removed t t' codes n i store slots kept steps = record {
   limit = i.limit;
   fit = rw store i.fit;
   small = rw store i.small;
   kept = omega (arith, ap (λ (ks : List Bool). length ks) kept, length-set t.kept.items n false, i.kept, ap (λ (cs : List (List ℕ)). length cs) store);
   slotted = rw (store, slots) i.slotted;
   few = rw slots i.few;
+  steps = rw (store, slots, steps) i.steps;
 }
 
 pub removed_sound : (v : ℕ) (t t' : Tables) (l : Lists) (trail : List ℕ) (quiet : List Bool) (n : ℕ) → AreSound v t l trail quiet → t'.store ≡ t.store
-    → t'.slots.items ≡ t.slots.items → t'.kept.items ≡ set t.kept.items n false → AreSound v t' l trail quiet
-removed_sound v t t' l trail quiet n i store slots kept = record {
+    → t'.slots.items ≡ t.slots.items → t'.kept.items ≡ set t.kept.items n false → t'.steps ≡ t.steps → AreSound v t' l trail quiet
+removed_sound v t t' l trail quiet n i store slots kept steps = record {
   small = i.small;
-  tables = tables_removed t t' (2 * v) n i.tables store slots kept;
+  tables = tables_removed t t' (2 * v) n i.tables store slots kept steps;
   few = rw store i.few;
   slots_few = rw (store, slots) i.slots_few;
   rest = rw (store, slots, kept) (record {

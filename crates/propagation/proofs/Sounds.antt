@@ -15,6 +15,7 @@ use Rattle.propagation.proofs.Assigns.{at_most_of, past_of}
 use Rattle.propagation.proofs.Adds.{fit_add, quiets_add}
 use Rattle.propagation.proofs.AsksKept.{asks_add}
 use Rattle.propagation.proofs.Enters.{below_by, short_by, complete_add}
+use Rattle.propagation.proofs.Stepped.{stepped_add}
 use Rattle.propagation.proofs.Slotted.{taken_rest, taken_free, taken_below, taken_few}
 
 -- the flags of the lengths below the result stand where the new clause is not pending
@@ -37,6 +38,7 @@ pub record IsAddedTo (v : ℕ) (t : Tables) (l : Lists) (trail : List ℕ) (quie
   pub room : number < 64 * length l.pending.numbers
   pub long : number < length l.pending.asks.items
   pub store : t'.store ≡ t.store ++ k ∷ []
+  pub steps : t'.steps ≡ t.steps
   pub kept : t'.kept.items ≡ t.kept.items ++ true ∷ []
   pub taken : IsTaken k number (2 * v) trail t.slots.items l t'.slots.items l'
   pub calm : IsQuietBelow k trail entered.low
@@ -56,6 +58,7 @@ tables_add v t l trail quiet k number entered t' l' p quiet' i a = record {
   slotted = subst (λ (n : ℕ). AreSlotsBelow n t'.slots.items) (sym (ap (λ (cs : List (List ℕ)). length cs) a.store ∙ length_push t.store k))
       (taken_below (length t.store) k number (2 * v) trail t.slots.items l t'.slots.items l' a.numbered a.taken i.tables.slotted);
   few = omega (arith, i.few, i.slots_few, taken_few k number (2 * v) trail t.slots.items l t'.slots.items l' a.taken);
+  steps = rw (a.store, a.steps) (stepped_add t.store k number (2 * v) trail t.slots.items l t'.slots.items l' t.steps a.taken i.tables.steps);
 }
 
 -- all that holds of the tables holds with the new clause

@@ -23,7 +23,7 @@ moved_long f list j = ap (λ (o : Option (List ℕ)). length (unwrap_or o [])) (
     by (Some xs) = length-map xs f
 
 -- a part is before the end of all
-part_below : (parts size t j : ℕ) → t < parts → j < size → t * size + j < parts * size
+pub part_below : (parts size t j : ℕ) → t < parts → j < size → t * size + j < parts * size
 part_below parts size t j h g =
     let k : (t + 1) * size ≤ parts * size = mul-le-mul_right size (omega (arith, h)) in
     let d : (t + 1) * size ≡ t * size + size = omega arith in

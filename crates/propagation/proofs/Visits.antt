@@ -5,10 +5,10 @@ use Rattle.clause_base.specs.Literal.{opposite}
 use Rattle.clause_base.specs.Clause.{IsClause, IsRising, has_literal}
 use Rattle.clause_base.proofs.ClauseLemmas.{rising-tail}
 use Rattle.cdcl_trail.proofs.Mirrors.{half_opposite}
-use Rattle.watch_chains.specs.declared.chains.Node.{Node}
-use Rattle.watch_chains.specs.declared.chains.Place.{Place}
-use Rattle.watch_chains.specs.Linked.{blocking_of, has, placed}
-use Rattle.watch_chains.specs.Walk.{IsWalk}
+use Rattle.clause_store.specs.declared.chains.Node.{Node}
+use Rattle.clause_store.specs.declared.chains.Place.{Place}
+use Rattle.clause_store.specs.Linked.{blocking_of, has, placed}
+use Rattle.clause_store.specs.Walk.{IsWalk}
 use Rattle.propagation.specs.Asks.{IsUnit}
 use Rattle.propagation.specs.Pending.{AreFalseBut, is_free}
 use Rattle.cdcl_rules.specs.State.{clause_at}

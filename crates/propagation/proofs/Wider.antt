@@ -3,7 +3,7 @@ use Rattle.std.proofs.Common.{arith, ◌≡◌, ℕ, ◌*◌, ◌/◌, ◌≤◌
 use Rattle.clause_base.specs.Literal.{opposite}
 use Rattle.clause_base.specs.Clause.{has_literal}
 use Rattle.cdcl_trail.proofs.Mirrors.{half_opposite}
-use Rattle.watch_chains.specs.Linked.{blocking_of}
+use Rattle.clause_store.specs.Linked.{blocking_of}
 use Rattle.propagation.specs.declared.pending.Pending.{Pending}
 use Rattle.propagation.specs.declared.tables.Tables.{Tables}
 use Rattle.propagation.specs.declared.visit.Lists.{Lists}
@@ -72,6 +72,7 @@ sound_again v t t' l trail quiet i e = record {
     kept = rw (e.store, e.kept) i.tables.kept;
     slotted = rw (e.store, e.slots) i.tables.slotted;
     few = rw e.slots i.tables.few;
+    steps = rw (e.store, e.slots, e.steps) i.tables.steps;
   };
   few = rw e.store i.few;
   slots_few = rw (e.store, e.slots) i.slots_few;

@@ -2,7 +2,7 @@
 use Rattle.std.specs.Prelude.{◌≡◌, ℕ, ◌+◌, ◌*◌, ◌<◌, ◌≤◌, ◌⊎◌, List, [], ◌∷◌, ◌++◌, length, take, Bool, true, false, Option}
 use Rattle.clause_base.specs.Clause.{has_literal}
 use Rattle.cdcl_rules.specs.Pending.{is_pending}
-use Rattle.watch_chains.specs.Linked.{IsLinked, ArePairLoose, blocking_of}
+use Rattle.clause_store.specs.Linked.{IsLinked, ArePairLoose, blocking_of}
 use Rattle.propagation.specs.declared.pending.Pending.{Pending}
 use Rattle.propagation.specs.declared.enter.Entered.{Entered}
 use Rattle.propagation.specs.declared.tables.Tables.{Tables}
@@ -48,11 +48,12 @@ pub record AreWider (l l' : Lists) : Type 0 where
   pub more_froms : length l.froms.items ≤ length l'.froms.items
   pub pending : IsWider l.pending l'.pending
 
--- the clauses, which of them are kept and the slots are the same
+-- the clauses, which of them are kept, the slots and their steps are the same
 pub record AreSame (t t' : Tables) : Type 0 where
   pub store : t'.store ≡ t.store
   pub kept : t'.kept.items ≡ t.kept.items
   pub slots : t'.slots.items ≡ t.slots.items
+  pub steps : t'.steps ≡ t.steps
 
 -- with a slot more, whose nodes are on their chains, the tables are at rest
 abbrev pub RestsWith : List ℕ → ℕ → ℕ → Lists → Lists → Type 0

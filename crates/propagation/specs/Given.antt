@@ -28,3 +28,10 @@ AreRising places = (i j : ℕ) → i < j → j < length places → slice_index p
 pub record IsBeside (places : List ℕ) (count place : ℕ) : Type 0 where
   pub below : place < count
   pub apart : (s : ℕ) → s < length places → slice_index places s ≡ place → ⊥
+
+-- the places of those clauses of a list that have not two literals, in order, and how many clauses the list has
+pub record AreOthers (list : List (List ℕ)) (places : List ℕ) (all : ℕ) : Type 0 where
+  pub count : all ≡ length list
+  pub below : AreSlotsBelow all places
+  pub rising : AreRising places
+  pub twos : (j : ℕ) → IsBeside places all j → length (clause_at list j) ≡ 2

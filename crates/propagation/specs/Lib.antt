@@ -5,6 +5,7 @@ pub mod Status
 pub mod Back
 pub mod Front
 pub mod Pairs
+pub mod Steps
 pub mod Tables
 pub mod Sound
 pub mod Added

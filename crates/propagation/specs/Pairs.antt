@@ -2,9 +2,10 @@
 use Rattle.std.specs.Prelude.{◌≡◌, ℕ, ◌*◌, ◌<◌, ◌⊎◌, List, true, false, length, slice_index}
 use Rattle.clause_base.specs.Clause.{has_literal}
 use Rattle.bit_sets.specs.Layered.{words_have}
-use Rattle.clause_store.specs.declared.pair.Pair.{Pair}
+use Rattle.clause_base.specs.declared.pair.Pair.{Pair}
 use Rattle.clause_store.specs.Origin.{ListsView}
-use Rattle.clause_store.specs.Pairs.{IsInPairs, IsPairOf, AreExact, pair_in}
+use Rattle.clause_base.specs.Pairs.{pair_in}
+use Rattle.clause_store.specs.Pairs.{IsInPairs, IsPairOf, AreExact}
 use Rattle.propagation.specs.declared.pending.Pending.{Pending}
 use Rattle.cdcl_rules.specs.State.{clause_at}
 
@@ -33,7 +34,7 @@ abbrev pub AreMarked : List ℕ → List Pair → Pending → Type 0
 AreMarked trail pairs p = (i : ℕ) → i < length pairs → has_literal trail (pair_in pairs i).other ≡ false → words_have p.numbers (pair_in pairs i).number ≡ true
 
 -- so are those of the lists of a literal that are of steps and times
-pub record AreListed (clauses : List (List ℕ)) (code : ℕ) (lists : ListsView) : Type 0 where
+pub record AreAllPairsOf (clauses : List (List ℕ)) (code : ℕ) (lists : ListsView) : Type 0 where
   pub last : ArePairsOf clauses code lists.last
   pub next : ArePairsOf clauses code lists.next
   pub time : ArePairsOf clauses code lists.time

@@ -4,7 +4,7 @@ use Rattle.std.specs.List.{list_any}
 use Rattle.clause_base.specs.Clause.{has_literal}
 use Rattle.propagation.specs.declared.tables.Tables.{Tables}
 use Rattle.propagation.specs.declared.visit.Lists.{Lists}
-use Rattle.watch_chains.specs.declared.chains.Node.{Node}
+use Rattle.clause_store.specs.declared.chains.Node.{Node}
 use Rattle.propagation.specs.Asks.{IsConsistent, HasAsks}
 use Rattle.propagation.specs.Front.{IsComplete}
 use Rattle.propagation.specs.Pending.{is_free, has_two_free}

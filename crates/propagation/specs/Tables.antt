@@ -2,6 +2,7 @@
 use Rattle.std.specs.Prelude.{◌≡◌, ℕ, ◌≤◌, List, Bool, length}
 use Rattle.propagation.specs.declared.tables.Tables.{Tables}
 use Rattle.propagation.specs.Pending.{is_pending_on}
+use Rattle.propagation.specs.Steps.{AreStepped}
 use Rattle.propagation.specs.Visit.{IsFit, slot_clauses, slot_flags, AreSlotsBelow}
 
 -- the clauses of the slots, which of them are kept, and which clauses are kept and pending
@@ -22,3 +23,4 @@ pub record AreTables (t : Tables) (codes : ℕ) : Type 0 where
   pub kept : length t.kept.items ≡ length t.store
   pub slotted : AreSlotsBelow (length t.store) t.slots.items
   pub few : length t.slots.items ≤ 4294967295
+  pub steps : AreStepped t.store t.slots.items t.steps

@@ -3,10 +3,10 @@ use Rattle.std.specs.List.{list_any}
 use Rattle.clause_base.specs.Literal.{opposite}
 use Rattle.clause_base.specs.Clause.{IsClause, has_literal}
 use Rattle.cdcl_rules.specs.State.{clause_at}
-use Rattle.watch_chains.specs.declared.chains.Node.{Node}
-use Rattle.watch_chains.specs.declared.chains.Place.{Place}
-use Rattle.watch_chains.specs.Linked.{IsLinked, blocking_of, has}
-use Rattle.watch_chains.specs.Walk.{IsWalk}
+use Rattle.clause_store.specs.declared.chains.Node.{Node}
+use Rattle.clause_store.specs.declared.chains.Place.{Place}
+use Rattle.clause_store.specs.Linked.{IsLinked, blocking_of, has}
+use Rattle.clause_store.specs.Walk.{IsWalk}
 use Rattle.bit_sets.specs.Layered.{words_have}
 use Rattle.propagation.specs.declared.visit.Lists.{Lists}
 use Rattle.propagation.specs.declared.tables.Tables.{Tables}

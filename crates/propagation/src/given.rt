@@ -4,19 +4,21 @@
 ghost use Rattle.std.specs.Prelude.{◌≡◌, ℕ, ◌+◌, ◌*◌, ◌<◌, ◌≤◌, ◌==◌, [], None, false, length, IfOk, OnOk};
 ghost use Rattle.cdcl_rules.specs.State.{clause_at};
 ghost use Rattle.bit_sets.specs.Layered.{words_have};
-ghost use Rattle.watch_chains.specs.Linked.{IsLinked};
+ghost use Rattle.clause_store.specs.Linked.{IsLinked};
 ghost use Rattle.propagation.specs.Visit.{IsFit, AreSlotsBelow};
-ghost use Rattle.propagation.specs.Given.{AreGiven, AreRising, IsBeside};
+ghost use Rattle.propagation.specs.Given.{AreGiven, AreOthers, AreRising, IsBeside};
 
 use crate::pending::Pending;
+use crate::room::LEARNED;
 use crate::scan::only_ask;
 use crate::visit::Lists;
 use clause_base::clause_list::ClauseList;
 use clause_base::formula::Formula;
 use clause_base::memory::Memory;
+use clause_base::shared_list::SharedList;
+use clause_store::chains::Chains;
 use clause_store::store::Store;
 use std::alloc::Global;
-use watch_chains::chains::Chains;
 
 /// The slots of a formula's clauses, and what is watched of them.
 #[derive(Drop)]
@@ -42,10 +44,7 @@ fn is_two(list: &ClauseList, number: usize) -> bool
 
 /// The places of the clauses of a list that have not two literals.
 fn others_of(alloc: Global, list: &ClauseList) -> Result<Others, Memory>
-    ensures count { IfOk result (λ others. others.count ≡ length list.now) }
-    ensures below { IfOk result (λ others. AreSlotsBelow others.count others.places.items) }
-    ensures rising { IfOk result (λ others. AreRising others.places.items) }
-    ensures twos { IfOk result (λ others. (j : ℕ) → IsBeside others.places.items others.count j → length (clause_at list.now j) ≡ 2) }
+    ensures { IfOk result (λ others. AreOthers list.now others.places.items others.count) }
 {
     let mut places = Vec::new(alloc);
     let count = list.count();
@@ -57,10 +56,19 @@ fn others_of(alloc: Global, list: &ClauseList) -> Result<Others, Memory>
     Ok(Others { places, count })
 }
 
-/// At least so many clauses of a formula have slots, if memory is to be had for them: those that have not two literals.
+/// The places of the clauses of one step or of one time that have not two literals.
+fn shared_others(alloc: Global, list: &SharedList) -> Result<Others, Memory>
+    ensures { IfOk result (λ others. AreOthers list.now others.places.items others.count) }
+{
+    others_of(alloc, list.list())
+}
+
+/// At least so many clauses of a formula have slots, if memory is to be had for them: those that have not two literals. Beside them
+/// there is room for learned ones.
 fn room_for(horizon: u32, once: usize, step: &Others, time: &Others) -> usize {
     let steps = horizon as usize;
-    once.saturating_add(steps.saturating_mul(step.places.len()))
+    once.saturating_add(LEARNED)
+        .saturating_add(steps.saturating_mul(step.places.len()))
         .saturating_add((steps + 1).saturating_mul(time.places.len()))
 }
 
@@ -189,8 +197,8 @@ impl Given {
         let parts = formula.parts();
         let steps = parts.repeated.horizon();
         let told_others = others_of(alloc, parts.told)?;
-        let step_others = others_of(alloc, parts.repeated.step())?;
-        let time_others = others_of(alloc, parts.repeated.time())?;
+        let step_others = shared_others(alloc, parts.repeated.step())?;
+        let time_others = shared_others(alloc, parts.repeated.time())?;
         let after_others = others_of(alloc, parts.after)?;
         let once = told_others
             .places

@@ -25,6 +25,7 @@ mod room;
 mod scan;
 mod slots;
 mod status;
+mod steps;
 mod tables;
 mod take_slot;
 mod undo;

@@ -3,19 +3,20 @@ ghost use Rattle.std.specs.Prelude.{◌≡◌, ◌*◌, ◌<◌, [], length, fal
 ghost use Rattle.clause_base.specs.Literal.{opposite};
 ghost use Rattle.clause_base.specs.Clause.{has_literal};
 ghost use Rattle.bit_sets.specs.Layered.{words_have};
-ghost use Rattle.clause_store.specs.Pairs.{IsPairOf, pairs_of};
+ghost use Rattle.clause_base.specs.Pairs.{pairs_of};
+ghost use Rattle.clause_store.specs.Pairs.{IsPairOf};
 ghost use Rattle.clause_store.specs.declared.origin.Origin.TheVariants.{Time};
 ghost use Rattle.propagation.specs.Asks.{HasAsks};
-ghost use Rattle.propagation.specs.Pairs.{AreAllMarked, AreListed, AreMarked, ArePairsOf};
+ghost use Rattle.propagation.specs.Pairs.{AreAllMarked, AreAllPairsOf, AreMarked, ArePairsOf};
 ghost use Rattle.propagation.specs.Visit.{Grows, IsFit};
 
 use crate::pending::Pending;
 use cdcl_trail::assignment::Assignment;
+use clause_base::pair::Pair;
 use clause_store::index::PairIndex;
 use clause_store::list::PairList;
 use clause_store::lists::Lists;
 use clause_store::origin::Origin;
-use clause_store::pair::Pair;
 use clause_store::store::Store;
 
 /// Puts the clause of a pair of a false literal into the set, if its other literal is not true.
@@ -94,7 +95,7 @@ fn mark_fact(
     requires fit { IsFit store.now (2 * assignment.now.variables) }
     requires falsified { has_literal assignment.now.trail (opposite falsified) ≡ true }
     requires origin { lists.now.origin ≡ Time time fact }
-    requires listed { AreListed store.now falsified lists.now }
+    requires listed { AreAllPairsOf store.now falsified lists.now }
     requires asks { HasAsks store.now assignment.now.trail pending.old }
     ensures in_set { AreAllMarked assignment.now.trail lists.now pending.new }
     ensures grows { Grows (words_have pending.old.numbers) (words_have pending.new.numbers) }
@@ -120,7 +121,7 @@ fn mark_repeated(
 )
     requires fit { IsFit store.now (2 * assignment.now.variables) }
     requires falsified { has_literal assignment.now.trail (opposite falsified) ≡ true }
-    requires listed { AreListed store.now falsified lists.now }
+    requires listed { AreAllPairsOf store.now falsified lists.now }
     requires asks { HasAsks store.now assignment.now.trail pending.old }
     ensures in_set { AreAllMarked assignment.now.trail lists.now pending.new }
     ensures grows { Grows (words_have pending.old.numbers) (words_have pending.new.numbers) }

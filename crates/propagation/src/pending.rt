@@ -3,6 +3,7 @@ ghost use Rattle.std.specs.Prelude.{◌≡◌, ℕ, ◌*◌, ◌<◌, ◌≤◌,
 ghost use Rattle.bit_sets.specs.Layered.{words_have};
 ghost use Rattle.propagation.specs.Asks.{IsLeastAsking, IsPut, IsWider, IsWithin, IsWithout};
 
+use crate::room::no_asks;
 use bit_sets::first::First;
 use bit_sets::flat::Flat;
 use bit_sets::layer::Layer;
@@ -86,7 +87,7 @@ impl Pending {
         make_room(&mut numbers, count)?;
         Ok(Pending {
             numbers,
-            asks: vec![in alloc; 0; count as usize]?,
+            asks: no_asks(alloc, count)?,
         })
     }
 

@@ -17,8 +17,9 @@ use crate::known::{Known, list_from};
 use crate::marks::mark_pairs;
 use crate::pending::Pending;
 use crate::quiet::{no_quiet, raise};
-use crate::room::make_room;
+use crate::room::{all_kept, make_room};
 use crate::scan::status_of;
+use crate::steps::Steps;
 use crate::tables::Tables;
 use crate::take_slot::take_slot;
 use crate::undo::{Back, refresh, take_back};
@@ -33,12 +34,12 @@ use cdcl_trail::trail::Trail;
 use clause_base::formula::Formula;
 use clause_base::literal::Lit;
 use clause_base::memory::Memory;
+use clause_store::chains::Chains;
 use clause_store::index::PairIndex;
 use clause_store::store::Store;
 use containers::let_go;
 use std::alloc::Global;
 use std::marker::Model;
-use watch_chains::chains::Chains;
 
 /// How many clauses there may be.
 const MOST_CLAUSES: u32 = 2_147_483_647;
@@ -86,17 +87,19 @@ impl Propagator {
         let variables = formula.variables();
         let count = formula.count();
         let store = Store::new(alloc, formula)?;
-        let kept = vec![in alloc; true; count as usize]?;
+        let kept = all_kept(alloc, count)?;
         let trail = Trail::new(alloc, variables)?;
         let pairs = PairIndex::new(alloc, formula)?;
         let quiet = no_quiet(alloc, variables)?;
         let given = Given::new(alloc, &store, formula, 2 * variables)?;
+        let steps = Steps::new(alloc, formula, &given.slots)?;
         Ok(Propagator {
             variables,
             tables: Tables {
                 store,
                 kept,
                 slots: given.slots,
+                steps,
             },
             trail,
             pairs,

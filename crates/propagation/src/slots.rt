@@ -1,6 +1,7 @@
 //! The slots of clauses that are watched: each has the number of one.
 ghost use Rattle.std.specs.Prelude.{◌≡◌, ◌<◌, length, false, slice_index_or};
 ghost use Rattle.cdcl_rules.specs.State.{clause_at};
+ghost use Rattle.propagation.specs.Steps.{AreStepped};
 ghost use Rattle.propagation.specs.Visit.{AreSlotsBelow};
 ghost use Rattle.propagation.specs.Tables.{clauses_in, flags_in};
 
@@ -12,9 +13,17 @@ use clause_base::view::View;
 pub fn slot_clause(tables: &Tables, slot: u32) -> View<'_>
     requires inside { slot < length tables.now.slots.items }
     requires below { AreSlotsBelow (length tables.now.store) tables.now.slots.items }
+    requires steps { AreStepped tables.now.store tables.now.slots.items tables.now.steps }
     ensures { result ≡ clause_at (clauses_in tables.now) slot }
 {
-    tables.store.clause(tables.number_at(slot))
+    let number = tables.number_at(slot);
+    let steps = &tables.steps;
+    if (slot as usize) < steps.of_slots.len() {
+        let step = steps.of_slots[slot as usize];
+        let first = steps.before + step * steps.size;
+        return steps.part.step_clause(step, number - first);
+    }
+    tables.store.clause(number)
 }
 
 /// Whether the clause of a slot is kept.

@@ -2,21 +2,23 @@
 //! visited and where the first one that is pending is sought.
 ghost use Rattle.std.specs.Prelude.{◌≡◌, ◌<◌, length, false, slice_index, slice_index_or};
 
+use crate::steps::Steps;
 use clause_store::store::Store;
 use containers::let_go;
 
-/// The clauses by number, which of them are kept, and the number of each slot's clause.
+/// The clauses by number, which of them are kept, and the number and the step of each slot's clause.
 pub struct Tables {
     pub store: Store,
     pub kept: Vec<bool>,
     /// For each slot the number of its clause.
     pub slots: Vec<u32>,
+    pub steps: Steps,
 }
 
 /// Letting one go is one call, in which its parts go: whoever holds one proves one step.
 impl Drop for Tables {
     fn drop(self) {
-        let_go!(self: Tables { store, kept, slots });
+        let_go!(self: Tables { store, kept, slots, steps });
     }
 }
 

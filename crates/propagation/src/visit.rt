@@ -17,8 +17,8 @@ use crate::slots::{is_slot_kept, slot_clause};
 use crate::tables::Tables;
 use cdcl_trail::assignment::Assignment;
 use clause_base::literal::Lit;
+use clause_store::chains::{Chains, END, Place};
 use containers::let_go;
-use watch_chains::chains::{Chains, END, Place};
 
 /// What changes where a literal becomes false.
 pub struct Lists {

@@ -26,7 +26,7 @@ pub(crate) fn shared_run<F: StepForm>(
     ensures { IfOk result (IsFresh F.StepForm form.now) }
 {
     let run = HorizonRun::sharing(alloc, supporters, form, horizon)?;
-    Ok(AheadRun::of(run))
+    Ok(AheadRun::of(alloc, run))
 }
 
 /// Takes the first of some runs, where it is that of a horizon.
@@ -58,7 +58,7 @@ pub(crate) fn next_fresh<F: StepForm>(
         Some(run) => Ok(run),
         None => {
             let new = HorizonRun::new(alloc, task, form, horizon)?;
-            Ok(AheadRun::of(new))
+            Ok(AheadRun::of(alloc, new))
         }
     }
 }

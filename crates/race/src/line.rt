@@ -21,32 +21,35 @@ fn line_of(run: &AheadRun, end: LineEnd) -> Line
     }
 }
 
-/// The line of a run that is live at the end: its log is certified where it is refuted.
-pub(crate) fn open(alloc: Global, run: &AheadRun) -> Result<Line, Memory>
+/// The line of a refuted run, with the mark of its log.
+fn refuted(alloc: Global, run: AheadRun) -> Result<Line, Memory>
     ghost input: { RaceInput }
-    requires run { IsRunOf input run.now }
-    ensures told { IfOk result (λ line. line_view line ≡ open_line (live_run_of run.now)) }
+    requires run { IsRunOf input run }
+    requires refuted { run.state.standing ≡ Standing.Refuted }
+    ensures told { IfOk result (λ line. line_view line ≡ open_line (live_run_of run)) }
     ensures line { IfOk result (λ line. IsLine input line) }
 {
-    let end = match run.standing() {
-        Standing::Refuted => LineEnd::Refuted(run.certify(alloc)?),
-        Standing::Going => LineEnd::Going,
-        Standing::Found => LineEnd::Found,
-    };
-    Ok(line_of(run, end))
+    let horizon = run.horizon();
+    let conflicts = run.conflicts();
+    let end = LineEnd::Refuted(run.certify(alloc)?);
+    Ok(Line {
+        horizon,
+        conflicts,
+        end,
+    })
 }
 
-/// The line of a run that is passed by a refuted one or refuted itself.
-fn passed(alloc: Global, run: &AheadRun) -> Result<Line, Memory>
+/// The line of a run that is live at the end.
+pub(crate) fn open(alloc: Global, run: AheadRun) -> Result<Line, Memory>
     ghost input: { RaceInput }
-    requires run { IsRunOf input run.now }
-    requires unfound { run.now.state.standing ≡ Standing.Found → ⊥ }
-    ensures told { IfOk result (λ line. line_view line ≡ passed_line (live_run_of run.now)) }
+    requires run { IsRunOf input run }
+    ensures told { IfOk result (λ line. line_view line ≡ open_line (live_run_of run)) }
     ensures line { IfOk result (λ line. IsLine input line) }
 {
     match run.standing() {
-        Standing::Refuted => open(alloc, run),
-        _ => Ok(line_of(run, LineEnd::Dropped)),
+        Standing::Refuted => refuted(alloc, run),
+        Standing::Going => Ok(line_of(&run, LineEnd::Going)),
+        Standing::Found => Ok(line_of(&run, LineEnd::Found)),
     }
 }
 
@@ -58,5 +61,8 @@ pub(crate) fn ended(alloc: Global, run: AheadRun) -> Result<Line, Memory>
     ensures told { IfOk result (λ line. line_view line ≡ passed_line (live_run_of run)) }
     ensures line { IfOk result (λ line. IsLine input line) }
 {
-    passed(alloc, &run)
+    if !matches!(run.standing(), Standing::Refuted) {
+        return Ok(line_of(&run, LineEnd::Dropped));
+    }
+    refuted(alloc, run)
 }

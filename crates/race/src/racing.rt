@@ -154,8 +154,15 @@ impl Racing {
         ensures lines { IfOk result (λ ls. AreLines input ls) }
         ensures sums { IfOk result (λ ls. conflicts_in (map line_view ls) ≡ self.ledger.spent) }
     {
-        let mut lines = self.lines;
-        for run in &self.runs {
+        let Racing {
+            window: _,
+            ledger: _,
+            last: _,
+            runs,
+            mut lines,
+            rounds: _,
+        } = self;
+        for run in runs {
             lines.push(open(alloc, run)?)?;
         }
         Ok(Lines::of(lines))

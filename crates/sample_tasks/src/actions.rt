@@ -5,14 +5,9 @@ use gt_core::eff::{Eff, Effs};
 use gt_core::lits::Lits;
 use std::alloc::{AllocError, Global};
 
-/// An effect without condition.
-pub fn sure(alloc: Global, lit: u32) -> Eff {
-    Eff::new(Lits::of(Vec::new(alloc)), lit)
-}
-
 /// An effect where some literals hold.
 pub fn when(alloc: Global, condition: &[u32], lit: u32) -> Result<Eff, AllocError> {
-    Ok(Eff::new(Lits::of(Vec::from_slice(alloc, condition)?), lit))
+    Eff::new(alloc, Lits::of(Vec::from_slice(alloc, condition)?), lit)
 }
 
 /// The action that needs some literals and has these effects.
@@ -25,7 +20,7 @@ pub fn action(alloc: Global, needed: &[u32], effects: Vec<Eff>) -> Result<Act, A
 pub fn plain(alloc: Global, needed: &[u32], made: &[u32]) -> Result<Act, AllocError> {
     let mut effects = Vec::new(alloc);
     for lit in made {
-        effects.push(sure(alloc, *lit))?;
+        effects.push(Eff::sure(*lit))?;
     }
     action(alloc, needed, effects)
 }

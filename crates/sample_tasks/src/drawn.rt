@@ -32,14 +32,14 @@ fn effects(alloc: Global, dice: &mut Dice, facts: u32) -> Result<Effs, AllocErro
     for lit in 0..2 * facts {
         let side = dice.roll(6);
         if side < 2 {
-            effects.push(Eff::new(Lits::of(Vec::new(alloc)), lit))?;
+            effects.push(Eff::sure(lit))?;
         }
         if side == 1 || side == 2 {
             let mut condition = literals(alloc, dice, facts, 4)?.into_vec();
             if condition.is_empty() {
                 condition.push(dice.roll(2))?;
             }
-            effects.push(Eff::new(Lits::of(condition), lit))?;
+            effects.push(Eff::new(alloc, Lits::of(condition), lit)?)?;
         }
     }
     Ok(Effs::of(effects))

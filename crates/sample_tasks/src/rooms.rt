@@ -2,8 +2,9 @@
 
 ghost use Rattle.std.specs.Prelude.{◌≡◌, ℕ, ◌+◌, ◌*◌, ◌/◌, ◌≤◌, ◌<◌};
 
-use crate::actions::{action, plain, sure, when};
+use crate::actions::{action, plain, when};
 use gt_core::act::{Act, Acts};
+use gt_core::eff::Eff;
 use gt_core::lits::{Bits, Lits};
 use gt_core::memory::Memory;
 use gt_core::pairs::Pairs;
@@ -91,13 +92,13 @@ impl House {
         } else {
             (enter, leave)
         };
-        let mut effects = vec![in alloc; sure(alloc, least), sure(alloc, greatest)]?;
+        let mut effects = vec![in alloc; Eff::sure(least), Eff::sure(greatest)]?;
         if to % 5 == 0 && to / 5 < self.lamps() {
             let lamp = to / 5;
             effects.push(when(alloc, &[self.on(lamp)], self.seen(lamp))?)?;
             effects.push(when(alloc, &[self.off(lamp)], self.seen(lamp) + 1)?)?;
         }
-        effects.push(sure(alloc, self.charged() + 1))?;
+        effects.push(Eff::sure(self.charged() + 1))?;
         action(alloc, &[self.at(from), self.charged()], effects)
     }
 

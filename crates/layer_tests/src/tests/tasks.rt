@@ -19,8 +19,10 @@ fn drawn(rt: &impl Abort, alloc: Global, sketch: &Sketch) -> Act {
     let (pre, made) = *sketch;
     let mut effects = Effs::new(alloc);
     for (condition, lit) in made {
-        let effect = Eff::new(lits(rt, alloc, condition), *lit);
-        effects.push(effect).expect(rt, "memory");
+        let effect = Eff::new(alloc, lits(rt, alloc, condition), *lit);
+        effects
+            .push(effect.expect(rt, "memory"))
+            .expect(rt, "memory");
     }
     Act::new(lits(rt, alloc, pre), effects)
 }

@@ -25,7 +25,8 @@ fn act(rt: &impl Abort, alloc: Global, sketch: &Sketch) -> Act {
     let mut effects = Effs::new(alloc);
     for lit in lits {
         let when = Lits::copied_from(alloc, when).expect(rt, "memory");
-        effects.push(Eff::new(when, *lit)).expect(rt, "memory");
+        let effect = Eff::new(alloc, when, *lit).expect(rt, "memory");
+        effects.push(effect).expect(rt, "memory");
     }
     Act::new(Lits::copied_from(alloc, pre).expect(rt, "memory"), effects)
 }

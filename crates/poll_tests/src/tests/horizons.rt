@@ -43,6 +43,7 @@ fn is_refuted_by_one<R: Seen>(rt: &impl Abort, alloc: Global, run: R) {
     looks(rt, alloc, &run, 1, 1, Standing::Refuted);
     grant(rt, &mut run, 5);
     looks(rt, alloc, &run, 6, 1, Standing::Refuted);
+    holds(rt, run.is_certified(alloc));
 }
 
 /// The run of one step is found before it is granted a conflict, and stays so.
@@ -68,6 +69,7 @@ fn is_ahead_unseen<R: Seen>(rt: &impl Abort, alloc: Global, run: R) {
     holds(rt, !run.work_ahead());
     grant(rt, &mut run, 1);
     looks(rt, alloc, &run, 1, 1, Standing::Refuted);
+    holds(rt, run.is_certified(alloc));
 }
 
 #[test]
@@ -104,6 +106,15 @@ fn are_ended<R: Seen>(alloc: Global, jobs: &[Job<R>]) -> bool {
     }
 }
 
+/// Whether the log of the first of some runs is accepted.
+fn is_first_certified<R: Seen>(alloc: Global, mut jobs: Vec<Job<R>>) -> bool {
+    if jobs.is_empty() {
+        return false;
+    }
+    let Job { run, target: _ } = jobs.remove(0);
+    run.is_certified(alloc)
+}
+
 /// A round of two workers, in turns of one unit, brings two runs so far.
 fn rounds<R: Seen + Send, H: Threads + Wait + Sync + Abort>(
     rt: &H,
@@ -117,6 +128,7 @@ fn rounds<R: Seen + Send, H: Threads + Wait + Sync + Abort>(
         .ok()
         .expect(rt, "memory");
     holds(rt, are_ended(alloc, jobs.as_slice()));
+    holds(rt, is_first_certified(alloc, jobs.into_vec()));
 }
 
 #[test]
@@ -139,7 +151,10 @@ fn settles<R: Seen, H: Wait + RandomSource + AllocGlobal + Abort>(
     let end = settle(&mut BlockOn::new(rt), run, target, 1)
         .ok()
         .expect(rt, "a run");
-    holds(rt, end.is_at(rt.alloc(), conflicts, wanted));
+    let is = end.is_at(rt.alloc(), conflicts, wanted);
+    let is_refuted = matches!(wanted, Standing::Refuted);
+    let is_certified = end.is_certified(rt.alloc());
+    holds(rt, is && is_certified == is_refuted);
 }
 
 // With units, the first conflict refutes the run of no step; without, it stays as it is.

@@ -20,9 +20,7 @@ use step_encoding::limits::PLANNER_LITERALS;
 /// A lamp, with an action that turns it on, and the goal that it is on.
 fn lamp(rt: &impl Abort, alloc: Global, on: bool) -> Task {
     let mut effects = Effs::new(alloc);
-    effects
-        .push(Eff::new(Lits::new(alloc), 0))
-        .expect(rt, "memory");
+    effects.push(Eff::sure(0)).expect(rt, "memory");
     let pre = Lits::copied_from(alloc, &[1]).expect(rt, "memory");
     let mut acts = Acts::new(alloc);
     acts.push(Act::new(pre, effects)).expect(rt, "memory");
@@ -70,7 +68,7 @@ fn run_of<F: StepForm>(rt: &impl Abort, alloc: Global, task: &Task, form: &F, n:
     let run = HorizonRun::new(alloc, task, form, n)
         .ok()
         .expect(rt, "memory");
-    AheadRun::of(run)
+    AheadRun::of(alloc, run)
 }
 
 /// The run of a horizon of the lamp that is off.

@@ -14,19 +14,12 @@ pub(crate) fn holds(rt: &impl Abort, is: bool) {
 
 /// A run of which tests see how far it is.
 pub(crate) trait Seen: Resume {
-    /// Whether it has handled so many conflicts and stands so. The log of a refuted run has one entry and is accepted for the
-    /// formula that has the name 0; the values of a found one say flip in the first step, with the lamp on after it and not before.
+    /// Whether it has handled so many conflicts and stands so. The values of a found one say flip in the first step, with the lamp
+    /// on after it and not before.
     fn is_at(&self, alloc: Global, conflicts: u64, wanted: Standing) -> bool;
-}
 
-/// Whether its log is accepted so.
-fn is_certified(alloc: Global, run: &AheadRun) -> bool
-    requires { run.now.state.standing ≡ Standing.Refuted }
-{
-    match run.certify(alloc) {
-        Ok(mark) => mark.entries() == 1 && mark.name() == 0,
-        Err(_) => false,
-    }
+    /// Whether it is refuted, by a log of one entry that is accepted for the formula that has the name 0.
+    fn is_certified(self, alloc: Global) -> bool;
 }
 
 /// Whether its values are those.
@@ -43,9 +36,19 @@ impl Seen for AheadRun {
     fn is_at(&self, alloc: Global, conflicts: u64, wanted: Standing) -> bool {
         let is_wanted = match self.standing() {
             Standing::Going => matches!(wanted, Standing::Going),
-            Standing::Refuted => matches!(wanted, Standing::Refuted) && is_certified(alloc, self),
+            Standing::Refuted => matches!(wanted, Standing::Refuted),
             Standing::Found => matches!(wanted, Standing::Found) && has_values(alloc, self),
         };
         is_wanted && self.conflicts() == conflicts
+    }
+
+    fn is_certified(self, alloc: Global) -> bool {
+        if !matches!(self.standing(), Standing::Refuted) {
+            return false;
+        }
+        match self.certify(alloc) {
+            Ok(mark) => mark.entries() == 1 && mark.name() == 0,
+            Err(_) => false,
+        }
     }
 }

@@ -1,6 +1,6 @@
 use Rattle.std.proofs.Common.{arith, List, sym, subst}
 use Rattle.std.proofs.Math.Nat.{mul-le-mul_right}
-use Rattle.clause_store.specs.declared.pair.Pair.{Pair}
+use Rattle.clause_base.specs.declared.pair.Pair.{Pair}
 use Rattle.clause_store.specs.Moved.{AreMovable}
 use Rattle.clause_store.proofs.Movables.{time_to, time_movable}
 use Rattle.clause_store.proofs.lists.time_list.Goals as goal

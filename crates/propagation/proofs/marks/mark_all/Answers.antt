@@ -1,6 +1,6 @@
 use Rattle.std.proofs.Common.{arith, ◌≡◌, true, false, subst}
 use Rattle.clause_base.specs.Clause.{has_literal}
-use Rattle.clause_store.specs.declared.pair.Pair.{Pair}
+use Rattle.clause_base.specs.declared.pair.Pair.{Pair}
 use Rattle.bit_sets.specs.Layered.{words_have}
 use Rattle.propagation.proofs.Asks.{marked_more}
 use Rattle.propagation.proofs.marks.mark_all.Goals as goal

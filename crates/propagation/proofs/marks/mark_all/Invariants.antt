@@ -3,7 +3,7 @@ use Rattle.clause_base.specs.Clause.{has_literal}
 use Rattle.bit_sets.specs.Layered.{words_have}
 use Rattle.propagation.specs.Asks.{HasAsks}
 use Rattle.propagation.specs.Visit.{Grows}
-use Rattle.clause_store.specs.Pairs.{pair_in}
+use Rattle.clause_base.specs.Pairs.{pair_in}
 use Rattle.propagation.proofs.marks.mark_all.Given as goal
 
 abbrev pub invariant-loop-place : goal.invariant-loop-place

@@ -1,5 +1,5 @@
 use Rattle.std.proofs.Common.{List, sym, subst}
-use Rattle.clause_store.specs.declared.pair.Pair.{Pair}
+use Rattle.clause_base.specs.declared.pair.Pair.{Pair}
 use Rattle.propagation.specs.Pairs.{AreMarked, ArePairsOf}
 use Rattle.propagation.proofs.marks.mark_fact.Goals as goal
 

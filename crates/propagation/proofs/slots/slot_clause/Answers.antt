@@ -1,13 +1,32 @@
-use Rattle.std.proofs.Common.{arith, get_or, ℕ, [], ap, sym, ◌∙◌}
+use Rattle.std.proofs.Common.{arith, ◌≡◌, ◌<◌, ℕ, length, ap, sym, ◌∙◌}
+use Rattle.std.proofs.lemmas.List.{get_or_read}
+use Rattle.cdcl_rules.specs.State.{clause_at}
+use Rattle.propagation.specs.Tables.{clauses_in}
 use Rattle.propagation.proofs.Filters.{clause_is}
 use Rattle.propagation.proofs.Slotted.{slot_at}
+use Rattle.propagation.proofs.Stepped.{clause_of_step}
 use Rattle.propagation.proofs.slots.slot_clause.Goals as goal
+use Rattle.propagation.proofs.slots.slot_clause.Goals.{After-number_at-number}
+
+-- the clause with the number of a slot is that of the slot
+own : (c : After-number_at-number) → clause_at c.args.tables.now.store c.number_at-number.result ≡ clause_at (clauses_in c.args.tables.now) c.args.slot
+own c =
+    ap (λ (n : ℕ). clause_at c.args.tables.now.store n) c.number_at-number.ensures
+    ∙ sym (slot_at c.args.tables.now.store c.args.tables.now.slots.items c.args.slot c.requires.inside)
+
+pub returns-then-slot-len : goal.returns-then-slot-len
+returns-then-slot-len c =
+    let t = c.args.tables.now in
+    let inside : c.args.slot < length t.steps.of_slots.items = omega (arith, c.if-slot-len.true, c.len.ensures) in
+    let step = get_or_read t.steps.of_slots.items c.args.slot c.index-step.result.now inside c.index-step.ensures 0 in
+    clause_of_step t.store t.slots.items t.steps c.args.slot c.index-step.result.now c.number_at-number.result c.step_clause.result c.requires.steps inside step c.number_at-number.ensures c.step_clause.ensures
+    ∙ own (goal.at.returns-then-slot-len c).After-number_at-number
+
+pub clause-requires : goal.clause-requires
+clause-requires c = omega (arith, c.number_at-number.ensures, c.requires.below c.args.slot c.requires.inside)
 
 pub returns : goal.returns
 returns c =
-    c.clause.ensures ∙ ap (λ (n : ℕ). get_or c.args.tables.now.store n []) c.number_at.ensures ∙ sym
-    (clause_is c.args.tables.now.store (get_or c.args.tables.now.slots.items c.args.slot 0)) ∙ sym
-    (slot_at c.args.tables.now.store c.args.tables.now.slots.items c.args.slot c.requires.inside)
-
-pub clause-requires : goal.clause-requires
-clause-requires c = omega (arith, c.number_at.ensures, c.requires.below c.args.slot c.requires.inside)
+    c.clause.ensures
+    ∙ sym (clause_is c.args.tables.now.store c.number_at-number.result)
+    ∙ own (goal.at.returns c).After-number_at-number

@@ -1,4 +1,4 @@
 use Rattle.race.proofs.line.ended.Given as goal
 
-abbrev pub ghost-passed : goal.ghost-passed
-ghost-passed g a = g.input
+abbrev pub ghost-refuted : goal.ghost-refuted
+ghost-refuted g a = g.input

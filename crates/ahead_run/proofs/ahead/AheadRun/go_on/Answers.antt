@@ -7,8 +7,8 @@ use Rattle.ahead_run.proofs.ahead.AheadRun.go_on.Goals as goal
 pub overflow_add-granted : goal.overflow_add-granted
 overflow_add-granted c = omega (arith, c.requires, now-granted c.self.inside.run _ c.self.inside.granted c.self.view_is, c.from.ensures)
 
-pub catch_up-requires : goal.catch_up-requires
-catch_up-requires c = omega (arith, c.requires, now-granted c.self.inside.run _ c.self.inside.granted c.self.view_is, c.from.ensures)
+pub catch_up-requires-clause-few : goal.catch_up-requires-clause-few
+catch_up-requires-clause-few c = omega (arith, c.requires, now-granted c.self.inside.run _ c.self.inside.granted c.self.view_is, c.from.ensures)
 
 pub returns-in-Ok-clause-sane : goal.returns-in-Ok-clause-sane
 returns-in-Ok-clause-sane c = sym (now-spoilt c.self.inside.run _ c.self.inside.granted c.self.view_is) ∙ c.in-Ok.ensures.sane

@@ -1,18 +1,9 @@
 use Rattle.std.proofs.Common.{ℕ, ◌*◌, ◌<◌, ◌≤◌, ◌++◌, length, All, arith}
+use Rattle.std.specs.Arc.{arc_value}
 use Rattle.clause_base.specs.Repeats.{repeated}
 use Rattle.clause_store.proofs.Exacts.{within_of}
 use Rattle.clause_store.proofs.Whole.{all_left, all_right, index_is}
 use Rattle.clause_store.proofs.index.PairIndex.of_parts.Goals as goal
-
-pub new-requires-clause-below : goal.new-requires-clause-below
-new-requires-clause-below c =
-    let rest = repeated (record { horizon = c.args.shape.horizon; width = c.args.shape.width; facts = c.args.shape.facts; step = c.args.step.now; time = c.args.time.now }) ++ c.args.after.now in
-    all_left (All (λ (l : ℕ). l < 2 * c.args.shape.variables)) c.args.told.now rest c.requires.parts.below
-
-pub new-requires-3-clause-below : goal.new-requires-3-clause-below
-new-requires-3-clause-below c =
-    let middle = repeated (record { horizon = c.args.shape.horizon; width = c.args.shape.width; facts = c.args.shape.facts; step = c.args.step.now; time = c.args.time.now }) in
-    all_right (All (λ (l : ℕ). l < 2 * c.args.shape.variables)) middle c.args.after.now (all_right (All (λ (l : ℕ). l < 2 * c.args.shape.variables)) c.args.told.now (middle ++ c.args.after.now) c.requires.parts.below)
 
 pub invariant_of-result : goal.invariant_of-result
 invariant_of-result c =
@@ -24,10 +15,10 @@ invariant_of-result c =
       record {
         told_within = within_of (2 * c.args.shape.variables) c.args.shape.tolds c.args.told.now c.in_ok-told.told tolds (all_left (All (λ (l : ℕ). l < 2 * c.args.shape.variables)) c.args.told.now (rest ++ c.args.after.now) c.requires.parts.below) c.in_ok-told.ensures;
         step_within = c.in_ok-step.ensures.within;
-        time_within = within_of (2 * c.args.shape.facts) c.args.shape.times c.args.time.now c.in_ok-time.time times c.requires.parts.time_below c.in_ok-time.ensures;
+        time_within = within_of (2 * c.args.shape.facts) c.args.shape.times c.args.time.now (arc_value c.in_ok-time.time) times c.requires.parts.time_below c.in_ok-time.ensures;
         after_within = within_of (2 * c.args.shape.variables) c.args.shape.afters c.args.after.now c.in_ok-after.after afters (all_right (All (λ (l : ℕ). l < 2 * c.args.shape.variables)) rest c.args.after.now (all_right (All (λ (l : ℕ). l < 2 * c.args.shape.variables)) c.args.told.now (rest ++ c.args.after.now) c.requires.parts.below)) c.in_ok-after.ensures;
       },
     )
 
 pub returns : goal.returns
-returns c = index_is c.args.shape c.args.told.now c.args.step.now c.args.time.now c.args.after.now c.in_ok-told.told c.in_ok-step.step c.in_ok-time.time c.in_ok-after.after c.requires.shape c.requires.parts c.in_ok-told.ensures c.in_ok-step.ensures.some c.in_ok-time.ensures c.in_ok-after.ensures
+returns c = index_is c.args.shape c.args.told.now c.args.step.now c.args.time.now c.args.after.now c.in_ok-told.told (arc_value c.in_ok-step.step) (arc_value c.in_ok-time.time) c.in_ok-after.after c.requires.shape c.requires.parts c.in_ok-told.ensures c.in_ok-step.ensures.some c.in_ok-time.ensures c.in_ok-after.ensures

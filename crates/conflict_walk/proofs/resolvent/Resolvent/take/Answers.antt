@@ -35,14 +35,14 @@ loop-position-preserved c =
     let a = c.index-entries-position.result in
     let inside : p < length w.entries = omega (arith, i.within, c.in-Some.ensures.0) in
     let own = c.index-entries-position.is ∙ ap (λ (es : List Assigned). get_or es p a) c.entries-entries.ensures.value in
-    let code = ap opposite (literal_at w.entries p a inside own) ∙ sym c.opposite.ensures in
+    let code = ap opposite (literal_at w.entries p a inside own) ∙ sym (c.lit.view_is ∙ c.opposite-lit.ensures) in
     let long = length-map w.entries (λ (x : Assigned). x.literal) in
     record {
       within = omega (arith, inside);
       size = c.clear_bit.ensures.len ∙ i.size;
-      room = omega (arith, c.put_code.ensures.room, i.room);
-      taken = taken_next (literals w.entries) (words_have c.loop-position.self-inside.marks.items) (words_have c.clear_bit.new.words.items) (words_have c.self.inside.marks.items) (words_have c.loop-position.codes.words) (words_have c.put_code.new.codes.words) (words_have c.args.codes.now.words)
-          c.loop-position.bound p c.opposite.result i.taken latest (omega (arith, inside, long)) code c.clear_bit.ensures.has c.put_code.ensures.has;
+      room = omega (arith, c.insert.ensures.room, i.room);
+      taken = taken_next (literals w.entries) (words_have c.loop-position.self-inside.marks.items) (words_have c.clear_bit.new.words.items) (words_have c.self.inside.marks.items) (words_have c.loop-position.codes.words) (words_have c.insert.new.self.words) (words_have c.args.codes.now.words)
+          c.loop-position.bound p c.lit.inside.0 i.taken latest (omega (arith, inside, long)) code c.clear_bit.ensures.has c.insert.ensures.has;
     }
 
 pub returns-clause-clear : goal.returns-clause-clear
@@ -59,13 +59,13 @@ returns-clause-codes c =
     let all = taken_all (literals c.args.trail.now.entries) (words_have c.loop-position.self-inside.marks.items) (words_have c.self.inside.marks.items) (words_have c.loop-position.codes.words) (words_have c.args.codes.now.words) c.loop-position.bound i.taken (subst (λ (ws : List ℕ). IsLatest (words_have ws) c.loop-position.bound None) c.as_slice.ensures.value c.in_default.ensures) in
     λ l. all.1 l ∙ ap (λ (m : MarksView). words_have c.args.codes.now.words l || is_marked (words_have m.words) 0 (literals c.args.trail.now.entries) l) c.self.view_is
 
-pub put_code-requires : goal.put_code-requires
-put_code-requires c =
+pub insert-requires : goal.insert-requires
+insert-requires c =
     let w = c.args.trail.now in
     let p = c.in-Some.position in
     let a = c.index-entries-position.result in
     let inside : p < length w.entries = omega (arith, c.loop-position.invariant.within, c.in-Some.ensures.0) in
     let own = c.index-entries-position.is ∙ ap (λ (es : List Assigned). get_or es p a) c.entries-entries.ensures.value in
     let low = code_below w.variables (get_or (literals w.entries) p 0) (entry_below w.variables w.entries p c.entries-entries.ensures.below inside) in
-    let code = ap opposite (literal_at w.entries p a inside own) ∙ sym c.opposite.ensures in
+    let code = ap opposite (literal_at w.entries p a inside own) ∙ sym (c.lit.view_is ∙ c.opposite-lit.ensures) in
     omega (arith, low, code, c.requires.room, c.loop-position.invariant.room)

@@ -9,7 +9,7 @@ use Rattle.cdcl_trail.specs.Assignment.{AssignmentView, literals}
 use Rattle.cdcl_trail.specs.Mirrored.{TrailView}
 use Rattle.cdcl_trail.proofs.Assignments.{has_is}
 use Rattle.cdcl_trail.proofs.Mirrors.{off_of_none, half_opposite}
-use Rattle.clause_store.specs.Pairs.{pairs_of, pair_in}
+use Rattle.clause_base.specs.Pairs.{pairs_of, pair_in}
 use Rattle.propagation.specs.Asks.{IsConsistent, HasAsks}
 use Rattle.propagation.specs.Front.{IsComplete}
 use Rattle.propagation.specs.Pending.{PropagatorView}

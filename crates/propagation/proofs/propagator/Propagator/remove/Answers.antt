@@ -6,4 +6,4 @@ use Rattle.propagation.proofs.propagator.Propagator.remove.Goals as goal
 pub invariant_of-self : goal.invariant_of-self
 invariant_of-self c =
     let w = c.self.inside in
-    (removed_sound w.variables w.tables _ w.lists (literals w.trail.entries) w.quiet.items c.args.number c.self.invariant.0 refl refl refl, c.self.invariant.1, c.self.invariant.2)
+    (removed_sound w.variables w.tables _ w.lists (literals w.trail.entries) w.quiet.items c.args.number c.self.invariant.0 refl refl refl refl, c.self.invariant.1, c.self.invariant.2)

@@ -4,7 +4,7 @@ use Rattle.clause_base.specs.Literal.{opposite}
 use Rattle.clause_base.specs.Clause.{IsClause, has_literal}
 use Rattle.cdcl_trail.proofs.Mirrors.{half_opposite}
 use Rattle.bit_sets.specs.Layered.{words_have}
-use Rattle.watch_chains.specs.Linked.{blocking_of}
+use Rattle.clause_store.specs.Linked.{blocking_of}
 use Rattle.propagation.specs.Pending.{AreFalseBut, is_free}
 use Rattle.propagation.specs.Asks.{IsUnit, IsAsk}
 use Rattle.cdcl_rules.specs.State.{clause_at}

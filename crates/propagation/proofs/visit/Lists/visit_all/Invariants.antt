@@ -1,7 +1,7 @@
 use Rattle.std.proofs.Common.{List, ℕ, ◌*◌}
 use Rattle.clause_base.specs.Clause.{has_literal}
 use Rattle.bit_sets.specs.Layered.{words_have}
-use Rattle.watch_chains.specs.Walk.{left_from}
+use Rattle.clause_store.specs.Walk.{left_from}
 use Rattle.propagation.specs.Asks.{HasAsks}
 use Rattle.propagation.specs.Tables.{clauses_in}
 use Rattle.propagation.specs.Visit.{AreVisited, MovesToFree, Grows}

@@ -1,6 +1,5 @@
-use Rattle.std.proofs.Common.{arith, ◌≡◌, List, length, slice_get, Some, refl, sym, ap, subst, add-one, ◌∙◌}
-use Rattle.std.proofs.lemmas.Option.{slice_get_read}
-use Rattle.horizon_run.specs.Run.{RunView}
+use Rattle.std.proofs.Common.{◌≡◌, ◌∷◌, [], length, sym, ap, ◌∙◌, rules}
+use Rattle.std.proofs.lemmas.List.{nil_from_length}
 use Rattle.race.specs.Tied.{race_state}
 use Rattle.race_end.specs.Ends.{conflicts_in, line_view}
 use Rattle.race.proofs.Finds.{line-next, lines-next, lines-end, told-lines}
@@ -9,21 +8,19 @@ use Rattle.race.proofs.racing.Racing.finish.Goals as goal
 
 pub loop-run-preserved : goal.loop-run-preserved
 loop-run-preserved g c =
-    let i = c.loop-run.run-index in
-    let run = c.run-item.result in
-    let items = c.deref-run-items.ensures.value in
-    let lent : slice_get c.deref-run-items.result.now i ≡ Some run = slice_get_read c.deref-run-items.result.now (length c.deref-run-items.result.now) i run refl (omega arith) c.run-item.is in
-    let at : slice_get c.args.self.runs.items i ≡ Some run = subst (λ (xs : List RunView). slice_get xs i ≡ Some run) items lent in
+    let old : c.loop-run.run-iterator.rest.items ≡ c.in-Some.run' ∷ c.next.new.self.rest.items = search rules in
     record {
-      told = rw add-one (line-next c.loop-run.lines.items c.push.new.self.items c.in_ok-open.field-0 c.args.self.runs.items i run at c.in_ok-push.ensures.items c.in_ok-open.ensures.told ∙ c.loop-run.invariant.told);
+      told = line-next c.loop-run.lines.items c.push.new.self.items c.in_ok-open.field-0 _ _ c.in-Some.run' old c.in_ok-push.ensures.items c.in_ok-open.ensures.told ∙ c.loop-run.invariant.told;
       lines = lines-next g.input c.loop-run.lines.items c.push.new.self.items c.in_ok-open.field-0 c.in_ok-push.ensures.items c.loop-run.invariant.lines c.in_ok-open.ensures.line;
+      runs = search rules;
     }
 
 pub returns-clause-told : goal.returns-clause-told
 returns-clause-told g c =
     let l = c.loop-run in
-    let items = ap (λ (xs : List RunView). length xs) c.deref-run-items.ensures.value in
-    ap (map line_view) c.of.ensures ∙ (sym (lines-end l.lines.items c.args.self.runs.items l.run-index (omega (arith, items))) ∙ l.invariant.told)
+    let empty : length l.run-iterator.rest.items ≡ 0 = search rules in
+    let none : l.run-iterator.rest.items ≡ [] = nil_from_length l.run-iterator.rest.items empty in
+    ap (map line_view) c.of.ensures ∙ (sym (lines-end l.lines.items l.run-iterator.rest.items none) ∙ l.invariant.told)
 
 pub returns-clause-sums : goal.returns-clause-sums
 returns-clause-sums g c =

@@ -1,0 +1,4 @@
+use Rattle.race.proofs.line.open.Given as goal
+
+abbrev pub ghost-refuted : goal.ghost-refuted
+ghost-refuted g a = g.input
