@@ -93,21 +93,61 @@ fn add_start(starts: &mut Vec<u32>, position: u32, reason: Option<u32>)
 }
 
 impl Trail {
+    /// The empty trail over so many variables, in the memory of these vectors.
+    fn over(
+        alloc: Global,
+        variables: u32,
+        mut entries: Vec<Assigned>,
+        mut positions: Vec<u32>,
+        mut starts: Vec<u32>,
+    ) -> Result<Trail, Memory>
+        requires { variables ≤ 2147483647 }
+        ensures { IfOk result (λ t. t ≡ record { variables = variables; entries = [] }) }
+    {
+        let values = Values::new(alloc, variables)?;
+        entries.clear();
+        entries.reserve(variables as usize)?;
+        // A position is read only of a variable on the trail.
+        positions.resize(variables as usize, 0)?;
+        starts.clear();
+        starts.reserve(variables as usize)?;
+        Ok(Trail {
+            variables,
+            entries,
+            values,
+            positions,
+            starts,
+        })
+    }
+
     /// The empty trail over so many variables.
     pub fn new(alloc: Global, variables: u32) -> Result<Trail, Memory>
         requires { variables ≤ 2147483647 }
         ensures { IfOk result (λ t. t ≡ record { variables = variables; entries = [] }) }
     {
-        let values = Values::new(alloc, variables)?;
-        let positions = vec![in alloc; 0; variables as usize]?;
-        let starts = Vec::with_capacity(alloc, variables as usize)?;
-        Ok(Trail {
+        Trail::over(
+            alloc,
             variables,
-            entries: Vec::with_capacity(alloc, variables as usize)?,
-            values,
+            Vec::new(alloc),
+            Vec::new(alloc),
+            Vec::new(alloc),
+        )
+    }
+
+    /// The empty trail over so many variables, in the memory of one that is done with. The values are made anew. Where memory is
+    /// wanting, all of it is let go.
+    pub fn renewed(self, alloc: Global, variables: u32) -> Result<Trail, Memory>
+        requires { variables ≤ 2147483647 }
+        ensures { IfOk result (λ t. t ≡ record { variables = variables; entries = [] }) }
+    {
+        let Trail {
+            variables: _,
+            entries,
+            values: _,
             positions,
             starts,
-        })
+        } = self;
+        Trail::over(alloc, variables, entries, positions, starts)
     }
 
     /// The value of a variable, if it has one; none past the last variable.
