@@ -9,6 +9,7 @@
 pub mod first;
 pub mod flat;
 pub mod layer;
+pub mod least;
 pub mod row;
 pub mod set;
 pub mod word;
