@@ -9,3 +9,4 @@ pub mod Movables
 pub mod Origins
 pub mod Linking
 pub mod ChainWalks
+pub mod Refilled

@@ -10,6 +10,7 @@ ghost use Rattle.std.specs.Prelude.{◌≡◌, ℕ, ◌<◌, ◌≤◌, ◌+◌,
 ghost use Rattle.clause_store.specs.Linked.{IsLinked, IsLoose, ArePairLoose, placed, blocking_of};
 ghost use Rattle.clause_store.specs.Walk.{IsWalk, StandsAt};
 
+use crate::refill::refill;
 use std::alloc::{AllocError, Global};
 
 /// Where a chain ends.
@@ -43,10 +44,24 @@ impl Chains {
         ensures codes { IfOk result (λ c. length c.heads.items ≡ codes) }
         ensures nodes { IfOk result (λ c. c.nodes.items ≡ []) }
     {
-        Ok(Chains {
-            heads: vec![in alloc; END; codes as usize]?,
-            nodes: Vec::with_capacity(alloc, nodes)?,
-        })
+        let none = Chains {
+            heads: Vec::new(alloc),
+            nodes: Vec::new(alloc),
+        };
+        none.renewed(codes, nodes)
+    }
+
+    /// Chains without nodes, with room for so many, in the memory of chains that are done with.
+    pub fn renewed(self, codes: u32, nodes: usize) -> Result<Chains, AllocError>
+        ensures linked { IfOk result (λ c. IsLinked c.heads.items c.nodes.items (λ k. None)) }
+        ensures codes { IfOk result (λ c. length c.heads.items ≡ codes) }
+        ensures nodes { IfOk result (λ c. c.nodes.items ≡ []) }
+    {
+        let mut chains = self;
+        refill(&mut chains.heads, codes as usize, END)?;
+        chains.nodes.clear();
+        chains.nodes.reserve(nodes)?;
+        Ok(chains)
     }
 
     /// Adds two nodes that are on no chain.

@@ -10,5 +10,6 @@ pub mod index;
 pub mod list;
 pub mod lists;
 pub mod origin;
+pub mod refill;
 mod shape;
 pub mod store;

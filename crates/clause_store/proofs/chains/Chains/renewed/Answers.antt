@@ -3,11 +3,11 @@ use Rattle.std.proofs.lemmas.List.{get_or-replicate, length-replicate}
 use Rattle.clause_store.specs.declared.chains.Node.{Node}
 use Rattle.clause_store.specs.Linked.{IsLinked}
 use Rattle.clause_store.proofs.Linking.{linked_none}
-use Rattle.clause_store.proofs.chains.Chains.new.Goals as goal
+use Rattle.clause_store.proofs.chains.Chains.renewed.Goals as goal
 
 pub returns-clause-linked : goal.returns-clause-linked
 returns-clause-linked c =
-    let heads = c.in_ok-vec.field-0.items in
-    let same = c.in_ok-vec.ensures.items_if_clones_equal (λ y h. h) in
-    subst (λ (xs : List Node). IsLinked heads xs (λ k. None)) (sym c.in_ok-with_capacity.ensures.items)
+    let heads = c.refill.new.items.items in
+    let same = c.in_ok-refill.ensures in
+    subst (λ (xs : List Node). IsLinked heads xs (λ k. None)) (sym (c.reserve.ensures.items ∙ c.clear.ensures.items))
     (linked_none heads (λ k h. ap (λ (xs : List ℕ). get_or xs k 0) same ∙ get_or-replicate c.args.codes k 4294967295 0 (omega (arith, h, ap (λ (xs : List ℕ). length xs) same, length-replicate {A = ℕ} c.args.codes 4294967295))))
