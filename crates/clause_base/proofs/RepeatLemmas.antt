@@ -7,8 +7,9 @@ use Rattle.std.proofs.lemmas.Option.{slice_get-map}
 use Rattle.std.proofs.lemmas.Bool.Decides.{nat_tests}
 use Rattle.std.proofs.Math.Nat.{mul-le-mul_right}
 use Rattle.clause_base.specs.Clause.{IsClause, HasVariablesBelow}
-use Rattle.clause_base.specs.Repeats.{Repeats, IsRepeatable, moved_code, step_part, time_part, all_steps, all_times, repeated, variables_of}
+use Rattle.clause_base.specs.Repeats.{Repeats, IsRepeatable, facts_at, moved_code, step_part, time_part, all_steps, all_times, repeated, variables_of}
 use Rattle.clause_base.specs.View.{shifted, StaysCode}
+use Rattle.clause_base.proofs.PieceLemmas.{holds_at}
 use Rattle.clause_base.proofs.Moved.{where_is, moved_below, moved_above, moved_is_clause}
 
 -- the place in two lists, one after the other
@@ -160,50 +161,44 @@ module _ (r : Repeats) (is : IsRepeatable r) where
       all_map (λ l. l / 2 < variables_of r) (λ l. l / 2 < r.facts) (moved_code 0 0 (r.horizon * r.width + t * r.facts)) c (λ l h. time_room r.horizon r.width r.facts t l lt h) q.1) b)
 
 -- the clause of a step or a time is read by what is added
-module _ (r : Repeats) (part : ℕ) where
-  abbrev high_in_step : ℕ
-  high_in_step = 2 * (r.horizon * r.width + part * r.facts) - 2 * r.width
-
-  abbrev high_in_time : ℕ
-  high_in_time = 2 * (r.horizon * r.width + part * r.facts)
-
-  step_same : (l : ℕ) → part < r.horizon → moved_code r.width (part * r.width) (r.horizon * r.width + part * r.facts) l ≡ shifted (2 * r.width) (part * (2 * r.width)) high_in_step l
+module _ (r : Repeats) (part begin : ℕ) (b : begin ≡ facts_at r part) where
+  step_same : (l : ℕ) → part < r.horizon → moved_code r.width (part * r.width) (r.horizon * r.width + part * r.facts) l ≡ shifted (2 * r.width) (part * (2 * r.width)) (begin - 2 * r.width) l
   step_same l lt =
       let o = step_order r.horizon r.width r.facts part lt in
-      moved_shifted r.width (part * r.width) (r.horizon * r.width + part * r.facts) (part * (2 * r.width)) high_in_step l (omega arith) (omega arith)
+      moved_shifted r.width (part * r.width) (r.horizon * r.width + part * r.facts) (part * (2 * r.width)) (begin - 2 * r.width) l (omega arith) (omega (arith, b, o))
 
-  time_same : (l : ℕ) → moved_code 0 0 (r.horizon * r.width + part * r.facts) l ≡ shifted 0 0 high_in_time l
-  time_same l = moved_shifted 0 0 (r.horizon * r.width + part * r.facts) 0 high_in_time l refl (omega arith)
+  time_same : (l : ℕ) → moved_code 0 0 (r.horizon * r.width + part * r.facts) l ≡ shifted 0 0 begin l
+  time_same l = moved_shifted 0 0 (r.horizon * r.width + part * r.facts) 0 begin l refl (omega (arith, b))
 
-  pub step_stays : (c : List ℕ) → IsRepeatable r → part < r.horizon → HasVariablesBelow (r.width + 2 * r.facts) c → All (StaysCode (2 * r.width) (part * (2 * r.width)) high_in_step) c
+  step_stays : (c : List ℕ) → IsRepeatable r → part < r.horizon → HasVariablesBelow (r.width + 2 * r.facts) c → All (StaysCode (2 * r.width) (part * (2 * r.width)) (begin - 2 * r.width)) c
   step_stays c is lt h k d i fits =
       let m = step_room r.horizon r.width r.facts part _ lt (h k d i) in
       let e = step_same _ lt in
       let s = is.small in
       subst (λ (x : ℕ). x ≤ 4294967295) e (omega arith)
 
-  pub time_stays : (c : List ℕ) → IsRepeatable r → part < r.horizon + 1 → HasVariablesBelow r.facts c → All (StaysCode 0 0 high_in_time) c
+  time_stays : (c : List ℕ) → IsRepeatable r → part < r.horizon + 1 → HasVariablesBelow r.facts c → All (StaysCode 0 0 begin) c
   time_stays c is lt h k d i fits =
       let m = time_room r.horizon r.width r.facts part _ lt (h k d i) in
       let e = time_same _ in
       let s = is.small in
       subst (λ (x : ℕ). x ≤ 4294967295) e (omega arith)
 
-  pub step_read : (place : ℕ) (lits moved : List ℕ) → part < r.horizon → place < length r.step → slice_get r.step place ≡ Some lits → moved ≡ map (shifted (2 * r.width) (part * (2 * r.width)) high_in_step) lits → slice_get (all_steps r) (part * length r.step + place) ≡ Some moved
+  step_read : (place : ℕ) (lits moved : List ℕ) → part < r.horizon → place < length r.step → slice_get r.step place ≡ Some lits → moved ≡ map (shifted (2 * r.width) (part * (2 * r.width)) (begin - 2 * r.width)) lits → slice_get (all_steps r) (part * length r.step + place) ≡ Some moved
   step_read place lits moved lt inside at is =
       let g = moved_code r.width (part * r.width) (r.horizon * r.width + part * r.facts) in
       step_at r part place lt inside
       ∙ slice_get-map (map g) r.step place
       ∙ ap (option_map (map g)) at
-      ∙ ap (λ (x : List ℕ). Some x) (map_same g (shifted (2 * r.width) (part * (2 * r.width)) high_in_step) lits (λ l. step_same l lt) ∙ sym is)
+      ∙ ap (λ (x : List ℕ). Some x) (map_same g (shifted (2 * r.width) (part * (2 * r.width)) (begin - 2 * r.width)) lits (λ l. step_same l lt) ∙ sym is)
 
-  pub time_read : (place : ℕ) (lits moved : List ℕ) → part < r.horizon + 1 → place < length r.time → slice_get r.time place ≡ Some lits → moved ≡ map (shifted 0 0 high_in_time) lits → slice_get (all_times r) (part * length r.time + place) ≡ Some moved
+  time_read : (place : ℕ) (lits moved : List ℕ) → part < r.horizon + 1 → place < length r.time → slice_get r.time place ≡ Some lits → moved ≡ map (shifted 0 0 begin) lits → slice_get (all_times r) (part * length r.time + place) ≡ Some moved
   time_read place lits moved lt inside at is =
       let g = moved_code 0 0 (r.horizon * r.width + part * r.facts) in
       time_at r part place lt inside
       ∙ slice_get-map (map g) r.time place
       ∙ ap (option_map (map g)) at
-      ∙ ap (λ (x : List ℕ). Some x) (map_same g (shifted 0 0 high_in_time) lits time_same ∙ sym is)
+      ∙ ap (λ (x : List ℕ). Some x) (map_same g (shifted 0 0 begin) lits time_same ∙ sym is)
 
 -- What the calls show of a value by its fields.
 
@@ -225,40 +220,31 @@ numbered n s number count e lt =
     let p = part_of number n count (subst (λ (k : ℕ). number < n * k) (sym e) lt) in
     (p.1, subst (λ (k : ℕ). number % count < k) e p.2, ap (λ (k : ℕ). number / count * k + number % count) (sym e) ∙ p.3)
 
--- the numbers of a step fit
-pub step_numbers : (r now : Repeats) (part first : ℕ) → r ≡ now → IsRepeatable r → part < now.horizon → first ≡ r.horizon * r.width → (part < r.horizon) × (part * (2 * r.width) ≤ 4294967294) × (first + part * r.facts ≤ 2147483647)
-step_numbers r now part first v is lt f =
-    let here : part < r.horizon = subst (λ (x : Repeats). part < x.horizon) (sym v) lt in
-    let small = is.small in
-    let q : part ≤ r.horizon = omega (arith, here) in
-    let a = mul-le-mul_right r.width q in
-    let b = mul-le-mul_right r.facts q in
-    (here, omega arith, omega arith)
+-- the numbers of a step and of a time fit
+pub step_fits : (r now : Repeats) (step : ℕ) → r ≡ now → IsRepeatable r → step < now.horizon → step * (2 * r.width) ≤ 4294967294
+step_fits r now step v is lt =
+    let q : step ≤ r.horizon = let here = subst (λ (x : Repeats). step < x.horizon) (sym v) lt in omega arith in
+    omega (arith, is.small, mul-le-mul_right r.width q)
 
-pub time_numbers : (r now : Repeats) (part first : ℕ) → r ≡ now → IsRepeatable r → part < now.horizon + 1 → first ≡ r.horizon * r.width → (part < r.horizon + 1) × (first + part * r.facts ≤ 2147483647)
-time_numbers r now part first v is lt f =
-    let here : part < r.horizon + 1 = subst (λ (x : Repeats). part < x.horizon + 1) (sym v) lt in
-    let small = is.small in
-    let q : part ≤ r.horizon = omega (arith, here) in
-    let b = mul-le-mul_right r.facts q in
-    (here, omega arith)
+pub time_fits : (r now : Repeats) (time first : ℕ) → r ≡ now → IsRepeatable r → time ≤ now.horizon → first ≡ r.horizon * r.width → first + time * r.facts ≤ 2147483647
+time_fits r now time first v is le f =
+    omega (arith, f, is.small, mul-le-mul_right r.facts (subst (λ (x : Repeats). time ≤ x.horizon) (sym v) le))
 
--- what is added to the codes, by the number of variables of all steps
-module _ (r : Repeats) (part first : ℕ) (lits : List ℕ) (f : first ≡ r.horizon * r.width) where
-  pub step_stays_by : IsRepeatable r → part < r.horizon → HasVariablesBelow (r.width + 2 * r.facts) lits → All (StaysCode (2 * r.width) (part * (2 * r.width)) (2 * (first + part * r.facts) - 2 * r.width)) lits
-  step_stays_by is lt h = subst (λ (b : ℕ). All (StaysCode (2 * r.width) (part * (2 * r.width)) (2 * (b + part * r.facts) - 2 * r.width)) lits) (sym f) (step_stays r part lits is lt h)
+-- where the view is `now`, the clause of a step or a time is read by its place
+module _ (r now : Repeats) (part begin place : ℕ) (lits : List ℕ) (v : r ≡ now) (b : begin ≡ facts_at now part) where
+  at_view : begin ≡ facts_at r part
+  at_view = subst (λ (x : Repeats). begin ≡ facts_at x part) (sym v) b
 
-  pub time_stays_by : IsRepeatable r → part < r.horizon + 1 → HasVariablesBelow r.facts lits → All (StaysCode 0 0 (2 * (first + part * r.facts))) lits
-  time_stays_by is lt h = subst (λ (b : ℕ). All (StaysCode 0 0 (2 * (b + part * r.facts))) lits) (sym f) (time_stays r part lits is lt h)
+  pub step_stays_at : IsRepeatable r → part < now.horizon → slice_get r.step place ≡ Some lits → All (StaysCode (2 * r.width) (part * (2 * r.width)) (begin - 2 * r.width)) lits
+  step_stays_at is lt at = step_stays r part begin at_view lits is (subst (λ (x : Repeats). part < x.horizon) (sym v) lt) (holds_at (HasVariablesBelow (r.width + 2 * r.facts)) r.step place lits is.step_below at)
 
-  pub step_clause_is : (now : Repeats) (place : ℕ) (moved : List ℕ) → r ≡ now → part < now.horizon → place < length now.step → slice_get r.step place ≡ Some lits → moved ≡ map (shifted (2 * r.width) (part * (2 * r.width)) (2 * (first + part * r.facts) - 2 * r.width)) lits → slice_get (all_steps now) (part * length now.step + place) ≡ Some moved
-  step_clause_is now place moved v lt inside at is =
-      let moved_is = subst (λ (b : ℕ). moved ≡ map (shifted (2 * r.width) (part * (2 * r.width)) (2 * (b + part * r.facts) - 2 * r.width)) lits) f is in
-      subst (λ (x : Repeats). slice_get (all_steps x) (part * length x.step + place) ≡ Some moved) v
-      (step_read r part place lits moved (subst (λ (x : Repeats). part < x.horizon) (sym v) lt) (subst (λ (x : Repeats). place < length x.step) (sym v) inside) at moved_is)
+  pub time_stays_at : IsRepeatable r → part < now.horizon + 1 → slice_get r.time place ≡ Some lits → All (StaysCode 0 0 begin) lits
+  time_stays_at is lt at = time_stays r part begin at_view lits is (subst (λ (x : Repeats). part < x.horizon + 1) (sym v) lt) (holds_at (HasVariablesBelow r.facts) r.time place lits is.time_below at)
 
-  pub time_clause_is : (now : Repeats) (place : ℕ) (moved : List ℕ) → r ≡ now → part < now.horizon + 1 → place < length now.time → slice_get r.time place ≡ Some lits → moved ≡ map (shifted 0 0 (2 * (first + part * r.facts))) lits → slice_get (all_times now) (part * length now.time + place) ≡ Some moved
-  time_clause_is now place moved v lt inside at is =
-      let moved_is = subst (λ (b : ℕ). moved ≡ map (shifted 0 0 (2 * (b + part * r.facts))) lits) f is in
-      subst (λ (x : Repeats). slice_get (all_times x) (part * length x.time + place) ≡ Some moved) v
-      (time_read r part place lits moved (subst (λ (x : Repeats). part < x.horizon + 1) (sym v) lt) (subst (λ (x : Repeats). place < length x.time) (sym v) inside) at moved_is)
+  pub step_clause_is : (moved : List ℕ) → part < now.horizon → place < length now.step → slice_get r.step place ≡ Some lits → moved ≡ map (shifted (2 * r.width) (part * (2 * r.width)) (begin - 2 * r.width)) lits → slice_get (all_steps now) (part * length now.step + place) ≡ Some moved
+  step_clause_is moved lt inside at is =
+      step_read now part begin b place lits moved lt inside (subst (λ (x : Repeats). slice_get x.step place ≡ Some lits) v at)
+      (subst (λ (x : Repeats). moved ≡ map (shifted (2 * x.width) (part * (2 * x.width)) (begin - 2 * x.width)) lits) v is)
+
+  pub time_clause_is : (moved : List ℕ) → part < now.horizon + 1 → place < length now.time → slice_get r.time place ≡ Some lits → moved ≡ map (shifted 0 0 begin) lits → slice_get (all_times now) (part * length now.time + place) ≡ Some moved
+  time_clause_is moved lt inside at is = time_read now part begin b place lits moved lt inside (subst (λ (x : Repeats). slice_get x.time place ≡ Some lits) v at) is

@@ -3,7 +3,7 @@ use Rattle.std.proofs.Common.{arith, ◌≡◌, ◌≢◌, ◌==◌, ℕ, zero, 
 use Rattle.std.specs.Prelude.{IfSome, IfNone}
 use Rattle.std.specs.Option.{option_map}
 use Rattle.std.specs.List.{range_with_len, slice_get}
-use Rattle.std.proofs.lemmas.List.{get_or_past, get_or_default, length-replicate}
+use Rattle.std.proofs.lemmas.List.{get_or_past, get_or_default}
 use Rattle.std.proofs.lemmas.List.FromFn.{length-map-range_with_len, get_or-map-range_with_len}
 use Rattle.std.proofs.lemmas.Option.{slice_get-get_or}
 use Rattle.std.proofs.lemmas.Bool.Decides.{nat_tests}
@@ -304,24 +304,6 @@ off_in (suc m) (suc l) = off_in m l
 
 pub none_of : (n : ℕ) (on : List Bool) → on ≡ replicate (2 * n) false → values_of n on ≡ replicate n None
 none_of n on e = rw e (none_in (value_at (replicate (2 * n) false)) 0 n (λ k. none_at (replicate (2 * n) false) k (off_in (2 * n) (2 * k)) (off_in (2 * n) (2 * k + 1))))
-
-pub truths_new : (n : ℕ) (on : List Bool) → n ≤ 2147483647 → on ≡ replicate (2 * n) false → AreTruths n 0 on
-truths_new n on few e = rw e (record {
-  few = few;
-  size = length-replicate (2 * n) false;
-  one = λ v h. off_in (2 * n) (2 * v + 1);
-  begins = omega arith;
-  passed = λ v h. absurd (omega (arith, h));
-})
-
-pub truths_passed : (n low more : ℕ) (on : List Bool) → AreTruths n low on → more ≤ n → AreGivenBelow more on → AreTruths n more on
-truths_passed n low more on r h p = record {
-  few = r.few;
-  size = r.size;
-  one = r.one;
-  begins = h;
-  passed = p;
-}
 
 -- The least variable without a value.
 

@@ -41,6 +41,10 @@ repeated r = all_steps r ++ all_times r
 abbrev pub variables_of : Repeats → ℕ
 variables_of r = r.horizon * r.width + (r.horizon + 1) * r.facts
 
+-- the code of the first fact at a time
+abbrev pub facts_at : Repeats → ℕ → ℕ
+facts_at r t = 2 * (r.horizon * r.width + t * r.facts)
+
 -- there are not too many clauses and variables, and the literals of one step and of one time are among theirs
 pub record IsRepeatable (r : Repeats) : Type 0 where
   pub few : r.horizon * length r.step + (r.horizon + 1) * length r.time ≤ 1073741824

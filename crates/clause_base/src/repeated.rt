@@ -1,6 +1,6 @@
 ghost use Rattle.std.specs.Prelude.{◌≡◌, ◌+◌, ◌*◌, ◌<◌, ◌≤◌, [], Some, IfOk, length, slice_get, All};
 ghost use Rattle.clause_base.specs.Clause.{IsClause, HasVariablesBelow};
-ghost use Rattle.clause_base.specs.Repeats.{IsRepeatable, all_steps, all_times, repeated, variables_of};
+ghost use Rattle.clause_base.specs.Repeats.{IsRepeatable, all_steps, all_times, facts_at, repeated, variables_of};
 
 use crate::clause_list::ClauseList;
 use crate::memory::Memory;
@@ -176,6 +176,15 @@ impl Repeated {
         self.sizes.all
     }
 
+    /// The code of the first fact at a time.
+    #[inline(always)]
+    fn facts_at(&self, time: u32) -> u32
+        requires { time ≤ self.now.horizon }
+        ensures { result ≡ facts_at self.now time }
+    {
+        2 * (self.sizes.first + time * self.facts)
+    }
+
     /// The clause of a step with a place among the clauses of the step.
     #[inline(always)]
     pub fn step_clause(&self, step: u32, place: u32) -> View<'_>
@@ -185,7 +194,7 @@ impl Repeated {
     {
         let limit = 2 * self.width;
         let low = step * limit;
-        let high = 2 * (self.sizes.first + step * self.facts) - limit;
+        let high = self.facts_at(step) - limit;
         View::moved(self.step.clause(place as usize), limit, low, high)
     }
 
@@ -196,8 +205,7 @@ impl Repeated {
         requires place { place < length self.now.time }
         ensures { slice_get (all_times self.now) (time * length self.now.time + place) ≡ Some result }
     {
-        let high = 2 * (self.sizes.first + time * self.facts);
-        View::moved(self.time.clause(place as usize), 0, 0, high)
+        View::moved(self.time.clause(place as usize), 0, 0, self.facts_at(time))
     }
 
     /// The clause with a number among those of all steps.

@@ -46,12 +46,6 @@ within_of codes count cs table h below e = record {
     at : (x place : ℕ) → place < length (pairs_of table x) → IsSmall codes count (pair_in (pairs_of table x) place)
     at x place g = All-get_or (IsSmall codes count) (pairs_of table x) place no_pair g (All-same (IsSmall codes count) (pairs_of table x) (pairs_from 0 x cs) (e x) (pairs_small codes count 0 x cs (omega (arith, h)) below))
 
-pub within_none : (codes count : ℕ) (table : List (List Pair)) → ((x : ℕ) → pairs_of table x ≡ []) → AreWithin codes count table
-within_none codes count table e = record {
-  others = λ x place g. absurd (omega (arith, g, ap (λ (ps : List Pair). length ps) (e x)));
-  numbers = λ x place g. absurd (omega (arith, g, ap (λ (ps : List Pair). length ps) (e x)));
-}
-
 -- a pair is of a clause of the literal and the other one, whose number is given
 record IsOf (n x : ℕ) (cs : List (List ℕ)) (p : Pair) : Type 0 where
   place : ℕ
@@ -159,9 +153,3 @@ found_of cs index e c two =
       has = has_of index a b c (pairs_from 0 a cs) (e a) (among_first 0 c a b cs is c (omega arith));
       back = has_of index b a c (pairs_from 0 b cs) (e b) (among_second 0 c a b cs is c (omega arith));
     }
-
-pub within_more : (codes count codes' count' : ℕ) (table : List (List Pair)) → codes ≤ codes' → count ≤ count' → AreWithin codes count table → AreWithin codes' count' table
-within_more codes count codes' count' table h g w = record {
-  others = λ x place i. omega (arith, h, w.others x place i);
-  numbers = λ x place i. omega (arith, g, w.numbers x place i);
-}

@@ -9,7 +9,7 @@ use Rattle.clause_base.specs.declared.pair.Pair.{Pair}
 use Rattle.clause_store.specs.declared.shape.Shape.{Shape}
 use Rattle.clause_base.specs.Pairs.{pairs_of, pairs_from}
 use Rattle.clause_store.specs.Pairs.{IsIndex}
-use Rattle.clause_base.specs.Repeats.{Repeats, step_part, time_part}
+use Rattle.clause_base.specs.Repeats.{step_part, time_part}
 use Rattle.clause_store.specs.Moved.{moved_pair}
 use Rattle.clause_store.specs.Lists.{IsShape, AreParts, facts_begin, facts_end, step_move, time_move, plain_move, after_all, moved_list, last_list, next_list, time_list, all_lists, index_of, clauses_of}
 use Rattle.clause_base.proofs.PairTables.{pairs_past}
@@ -51,9 +51,6 @@ pub past_three : (A B C : List Pair) (p q : Bool) → p ≡ false → q ≡ fals
 past_three A B C p q e f = ap (λ (b : Bool). if b then A else if q then B else C) e ∙ ap (λ (b : Bool). if b then B else C) f
 
 module _ (z : Shape) (T S I A : List (List ℕ)) (told step time after : List (List Pair)) (shape : IsShape z) (parts : AreParts z T S I A) (told_rows : (x : ℕ) → pairs_of told x ≡ pairs_from 0 x T) (step_rows : 0 < z.horizon → (x : ℕ) → pairs_of step x ≡ pairs_from 0 x S) (time_rows : (x : ℕ) → pairs_of time x ≡ pairs_from 0 x I) (after_rows : (x : ℕ) → pairs_of after x ≡ pairs_from 0 x A) where
-  parts_of : Repeats
-  parts_of = record { horizon = z.horizon; width = z.width; facts = z.facts; step = S; time = I }
-
   steps_long : (u : ℕ) → length (step_part (record { horizon = z.horizon; width = z.width; facts = z.facts; step = S; time = I }) u) ≡ z.steps
   steps_long u = length-map S _ ∙ sym parts.steps
 

@@ -1,7 +1,6 @@
 //! The pairs of a literal in five lists: in the rows of which literals of one step and of one time they stand, and how they are
 //! moved. How they are moved is worked out only for a list that has pairs, since most have none.
 ghost use Rattle.std.specs.Prelude.{◌≡◌, ◌+◌, ◌-◌, ◌*◌, ◌/◌, ◌<◌, ◌≤◌, [], nat_lt, if◌then◌else◌, unwrap_or};
-ghost use Rattle.std.specs.Arc.{arc_value};
 ghost use Rattle.clause_store.specs.Lists.{AreTables, AreWithin, IsShape, last_list, moved_list, next_list, plain_move, step_move, time_list, time_move};
 ghost use Rattle.clause_store.specs.declared.origin.Origin.TheVariants.{Step, Time};
 ghost use Rattle.clause_store.specs.Origin.{AreEmptyBy, IsOrigin};
@@ -11,7 +10,6 @@ use crate::origin::{Origin, origin_of};
 use crate::shape::Shape;
 use clause_base::pair_table::PairTable;
 use std::marker::Model;
-use std::sync::Arc;
 
 /// The pairs of a literal that stand as they are, with the clauses numbered from a first one on, if there are any.
 #[inline]
@@ -116,23 +114,22 @@ fn next_of<'a>(shape: &Shape, step: &'a PairTable, time: u32, fact: u32) -> Opti
 pub struct Lists<'a> {
     shape: &'a Shape,
     told: &'a PairTable,
-    step: &'a Arc<PairTable>,
-    time: &'a Arc<PairTable>,
+    step: &'a PairTable,
+    time: &'a PairTable,
     after: &'a PairTable,
     code: u32,
     origin: Origin,
 }
 
 impl<'a> Model for Lists<'a> {
-    ghost use Rattle.std.specs.Arc.{arc_value};
     ghost use Rattle.clause_store.specs.Lists.{AreTables, IsShape, last_list, moved_list, next_list, plain_move, time_list};
     ghost use Rattle.clause_store.specs.Origin.{IsOrigin, ListsView};
 
     ghost Value = { ListsView };
 
-    ghost view = { λ l. record { origin = l.origin; told = moved_list l.told.now (plain_move 0) l.code; last = last_list l.shape.now (arc_value l.step.now) l.code; next = next_list l.shape.now (arc_value l.step.now) l.code; time = time_list l.shape.now (arc_value l.time.now) l.code; after = moved_list l.after.now (plain_move l.shape.now.before) l.code } };
+    ghost view = { λ l. record { origin = l.origin; told = moved_list l.told.now (plain_move 0) l.code; last = last_list l.shape.now l.step.now l.code; next = next_list l.shape.now l.step.now l.code; time = time_list l.shape.now l.time.now l.code; after = moved_list l.after.now (plain_move l.shape.now.before) l.code } };
 
-    ghost invariant = { λ l. IsShape l.shape.now × AreTables l.shape.now l.told.now (arc_value l.step.now) (arc_value l.time.now) l.after.now × IsOrigin l.shape.now l.code l.origin };
+    ghost invariant = { λ l. IsShape l.shape.now × AreTables l.shape.now l.told.now l.step.now l.time.now l.after.now × IsOrigin l.shape.now l.code l.origin };
 }
 
 impl<'a> Lists<'a> {
@@ -141,17 +138,17 @@ impl<'a> Lists<'a> {
     pub(crate) fn of(
         shape: &'a Shape,
         told: &'a PairTable,
-        step: &'a Arc<PairTable>,
-        time: &'a Arc<PairTable>,
+        step: &'a PairTable,
+        time: &'a PairTable,
         after: &'a PairTable,
         code: u32,
     ) -> Lists<'a>
         requires shape { IsShape shape.now }
-        requires tables { AreTables shape.now told.now (arc_value step.now) (arc_value time.now) after.now }
+        requires tables { AreTables shape.now told.now step.now time.now after.now }
         ensures told { result.told ≡ moved_list told.now (plain_move 0) code }
-        ensures last { result.last ≡ last_list shape.now (arc_value step.now) code }
-        ensures next { result.next ≡ next_list shape.now (arc_value step.now) code }
-        ensures time { result.time ≡ time_list shape.now (arc_value time.now) code }
+        ensures last { result.last ≡ last_list shape.now step.now code }
+        ensures next { result.next ≡ next_list shape.now step.now code }
+        ensures time { result.time ≡ time_list shape.now time.now code }
         ensures after { result.after ≡ moved_list after.now (plain_move shape.now.before) code }
     {
         let origin = origin_of(shape, code);

@@ -1,6 +1,6 @@
 //! Runs the solver with the plain chooser.
 //!
-//! On one formula it prints how the solver stands, its conflicts and its log, or how many propagations the run makes. `bench/solve`
+//! On one formula it prints how the solver stands, its conflicts and its log, or how many propagations the run makes. `bench/time/solve`
 //! times that beside another solver. Of many formulas, each ended by a `%`, it prints the first line of each. One with a line
 //! `c conflicts NUMBER` it runs in one go, and in pieces of 1, of 7 and of 64 conflicts, says whether these come to the same, and
 //! what the checker says of the log; with a line `c trail` it prints the trail where the run stops, and with `c brief` it leaves

@@ -2,7 +2,7 @@ use Rattle.std.proofs.Common.{List, ◌<◌, length, sym, ap, ◌∙◌, arith}
 use Rattle.std.specs.Arc.{arc_value}
 use Rattle.clause_base.specs.declared.pair.Pair.{Pair}
 use Rattle.clause_base.specs.Pairs.{pairs_of}
-use Rattle.clause_store.specs.Lists.{index_of}
+use Rattle.clause_store.specs.Lists.{index_of, last_list, next_list, time_list}
 use Rattle.clause_store.proofs.Whole.{lists_read}
 use Rattle.clause_store.proofs.index.PairIndex.lists.Goals as goal
 
@@ -12,4 +12,8 @@ returns c =
     let long = ap (λ (v : List (List Pair)). length v) c.self.view_is in
     let inside : c.args.code < length (index_of w.shape w.told (arc_value w.step) (arc_value w.time) w.after) = omega (arith, long, c.requires) in
     sym (ap (λ (v : List (List Pair)). pairs_of v c.args.code) c.self.view_is)
-    ∙ lists_read w.shape w.told (arc_value w.step) (arc_value w.time) w.after c.args.code _ _ _ _ _ c.self.invariant.0 inside c.of.ensures.told c.of.ensures.last c.of.ensures.next c.of.ensures.time c.of.ensures.after
+    ∙ lists_read w.shape w.told (arc_value w.step) (arc_value w.time) w.after c.args.code _ _ _ _ _ c.self.invariant.0 inside c.of.ensures.told
+    (c.of.ensures.last ∙ ap (λ (t : List (List Pair)). last_list w.shape t c.args.code) c.deref.ensures)
+    (c.of.ensures.next ∙ ap (λ (t : List (List Pair)). next_list w.shape t c.args.code) c.deref.ensures)
+    (c.of.ensures.time ∙ ap (λ (t : List (List Pair)). time_list w.shape t c.args.code) c.deref-2.ensures)
+    c.of.ensures.after

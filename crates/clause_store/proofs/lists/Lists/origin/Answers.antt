@@ -1,5 +1,4 @@
 use Rattle.std.proofs.Common.{subst}
-use Rattle.std.specs.Arc.{arc_value}
 use Rattle.clause_store.specs.Origin.{AreEmptyBy, ListsView}
 use Rattle.clause_store.proofs.Origins.{empty_by}
 use Rattle.clause_store.proofs.lists.Lists.origin.Goals as goal
@@ -8,4 +7,4 @@ pub returns-clause-empty : goal.returns-clause-empty
 returns-clause-empty c =
     let w = c.self.inside in
     subst (λ (v : ListsView). AreEmptyBy w.origin v.last v.next v.time) c.self.view_is
-    (empty_by w.shape.now w.code (arc_value w.step.now) (arc_value w.time.now) w.origin c.self.invariant.2)
+    (empty_by w.shape.now w.code w.step.now w.time.now w.origin c.self.invariant.2)
