@@ -10,6 +10,7 @@ use Rattle.clause_base.specs.Clause.{IsClause, HasVariablesBelow, has_literal}
 use Rattle.cdcl_rules.specs.Pending.{is_pending}
 use Rattle.cdcl_rules.specs.State.{clause_at}
 use Rattle.bit_sets.specs.Layered.{words_have}
+use Rattle.cdcl_trail.specs.Mirrored.{TrailView}
 use Rattle.clause_base.specs.declared.pair.Pair.{Pair}
 use Rattle.clause_store.specs.Pairs.{IsIndex}
 use Rattle.clause_store.specs.Linked.{IsLinked}
@@ -337,3 +338,13 @@ fit_given v cl small lawful below = record {
     lawful_at : (c : ℕ) (b : Bool) → ltb c (length cl) ≡ b → IsClause (clause_at cl c)
     lawful_at c true e = let g : c < length cl = grind (arith, nat_tests) in law c g
     lawful_at c false e = let g : length cl ≤ c = grind (arith, nat_tests) in subst IsClause (sym (clause_past cl c g)) none_lawful
+
+-- so are those of a store with a copy of them
+pub fit_store : (n v : ℕ) (store clauses : List (List ℕ)) → n ≡ v → store ≡ clauses → v ≤ 2147483647 → All IsClause clauses
+    → All (HasVariablesBelow v) clauses → IsFit store (2 * n)
+fit_store n v store clauses e s small lawful below = rw (e, s) (fit_given v clauses small lawful below)
+
+-- the empty trail over so many variables
+pub empty_over : (t : TrailView) (n v : ℕ) → (let w : TrailView = record { variables = n; entries = [] } in t ≡ w) → n ≡ v
+    → (let w : TrailView = record { variables = v; entries = [] } in t ≡ w)
+empty_over t n v e h = e ∙ ap (λ (k : ℕ). let w : TrailView = record { variables = k; entries = [] } in w) h

@@ -72,27 +72,24 @@ fn room_for(horizon: u32, once: usize, step: &Others, time: &Others) -> usize {
         .saturating_add((steps + 1).saturating_mul(time.places.len()))
 }
 
-/// The lists of no clauses, with room for so many, of which so many have slots.
-fn no_lists(alloc: Global, count: u32, longs: usize, codes: u32) -> Result<Lists, Memory>
-    requires codes { codes ≤ 4294967294 }
-    requires few { count ≤ 1073741824 }
-    ensures froms { IfOk result (λ l. l.froms.items ≡ []) }
-    ensures pending { IfOk result (λ l. (k : ℕ) → words_have l.pending.numbers k ≡ false) }
-    ensures linked { IfOk result (λ l. IsLinked l.chains.heads.items l.chains.nodes.items (λ k. None)) }
-    ensures codes { IfOk result (λ l. length l.chains.heads.items ≡ codes) }
-    ensures room { IfOk result (λ l. count ≤ 64 * length l.pending.numbers) }
-    ensures asks { IfOk result (λ l. length l.pending.asks.items ≡ count) }
-{
-    Ok(Lists {
-        chains: Chains::new(alloc, codes, longs.saturating_add(longs))?,
-        froms: Vec::with_capacity(alloc, longs)?,
-        pending: Pending::new(alloc, count)?,
-    })
-}
-
 impl Given {
-    /// The tables of no clauses, with room for so many, of which so many have slots.
-    fn empty(alloc: Global, count: u32, longs: usize, codes: u32) -> Result<Given, Memory>
+    /// The tables of no clauses, without room. It takes no memory.
+    pub fn none(alloc: Global) -> Given {
+        Given {
+            slots: Vec::new(alloc),
+            lists: Lists {
+                chains: Chains {
+                    heads: Vec::new(alloc),
+                    nodes: Vec::new(alloc),
+                },
+                froms: Vec::new(alloc),
+                pending: Pending::none(alloc),
+            },
+        }
+    }
+
+    /// The tables of no clauses, with room for so many, of which so many have slots, in the memory of tables that are done with.
+    fn emptied(self, count: u32, longs: usize, codes: u32) -> Result<Given, Memory>
         requires codes { codes ≤ 4294967294 }
         requires few { count ≤ 1073741824 }
         ensures slots { IfOk result (λ g. g.slots.items ≡ []) }
@@ -103,9 +100,19 @@ impl Given {
         ensures room { IfOk result (λ g. count ≤ 64 * length g.lists.pending.numbers) }
         ensures asks { IfOk result (λ g. length g.lists.pending.asks.items ≡ count) }
     {
+        let Given { mut slots, lists } = self;
+        let (chains, mut froms, pending) = lists.into_parts();
+        slots.clear();
+        slots.reserve(longs)?;
+        froms.clear();
+        froms.reserve(longs)?;
         Ok(Given {
-            slots: Vec::with_capacity(alloc, longs)?,
-            lists: no_lists(alloc, count, longs, codes)?,
+            slots,
+            lists: Lists {
+                chains: chains.renewed(codes, longs.saturating_add(longs))?,
+                froms,
+                pending: pending.renewed(count)?,
+            },
         })
     }
 
@@ -186,9 +193,15 @@ impl Given {
         Ok(next)
     }
 
-    /// The tables of the clauses of a formula, of which a store has a copy. Which clauses have two literals is found once for all
-    /// steps and once for all times.
-    pub fn new(alloc: Global, store: &Store, formula: &Formula, codes: u32) -> Result<Given, Memory>
+    /// The tables of the clauses of a formula, of which a store has a copy, in the memory of tables that are done with. Which
+    /// clauses have two literals is found once for all steps and once for all times.
+    pub fn renewed(
+        self,
+        alloc: Global,
+        store: &Store,
+        formula: &Formula,
+        codes: u32,
+    ) -> Result<Given, Memory>
         requires same { store.now ≡ formula.now.clauses }
         requires fit { IsFit store.now codes }
         requires codes { codes ≤ 4294967294 }
@@ -205,7 +218,7 @@ impl Given {
             .len()
             .saturating_add(after_others.places.len());
         let longs = room_for(steps, once, &step_others, &time_others);
-        let mut given = Given::empty(alloc, formula.count(), longs, codes)?;
+        let mut given = self.emptied(formula.count(), longs, codes)?;
         let told = given.enter_part(store, &told_others, 0, codes)?;
         let stepped = given.enter_parts(store, &step_others, steps, told, codes)?;
         let timed = given.enter_parts(store, &time_others, steps, stepped, codes)?;

@@ -24,6 +24,7 @@ mod quiet;
 mod room;
 mod scan;
 mod slots;
+mod spare;
 mod status;
 mod steps;
 mod tables;

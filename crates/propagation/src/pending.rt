@@ -3,7 +3,7 @@ ghost use Rattle.std.specs.Prelude.{◌≡◌, ℕ, ◌*◌, ◌<◌, ◌≤◌,
 ghost use Rattle.bit_sets.specs.Layered.{words_have};
 ghost use Rattle.propagation.specs.Asks.{IsLeastAsking, IsPut, IsWider, IsWithin, IsWithout};
 
-use crate::room::no_asks;
+use crate::room::fit_asks;
 use bit_sets::first::First;
 use bit_sets::flat::Flat;
 use bit_sets::layer::Layer;
@@ -73,22 +73,29 @@ fn widen_asks(asks: &mut Vec<u32>, number: u32) -> Result<(), AllocError>
 }
 
 impl Pending {
-    /// An empty set with room for so many clauses.
-    pub fn new(alloc: Global, count: u32) -> Result<Pending, AllocError>
+    /// An empty set without room. It takes no memory.
+    pub fn none(alloc: Global) -> Pending {
+        Pending {
+            numbers: First::new(
+                alloc,
+                Layer::new(alloc, Layer::new(alloc, Flat::new(alloc))),
+            ),
+            asks: Vec::new(alloc),
+        }
+    }
+
+    /// An empty set with room for so many clauses, in the memory of one that is done with.
+    pub fn renewed(self, count: u32) -> Result<Pending, AllocError>
         requires few { count ≤ 1073741824 }
         ensures none { IfOk result (λ p. (k : ℕ) → words_have p.numbers k ≡ false) }
         ensures room { IfOk result (λ p. count ≤ 64 * length p.numbers) }
         ensures asks { IfOk result (λ p. length p.asks.items ≡ count) }
     {
-        let mut numbers = First::new(
-            alloc,
-            Layer::new(alloc, Layer::new(alloc, Flat::new(alloc))),
-        );
-        make_room(&mut numbers, count)?;
-        Ok(Pending {
-            numbers,
-            asks: no_asks(alloc, count)?,
-        })
+        let mut pending = self;
+        pending.clear();
+        make_room(&mut pending.numbers, count)?;
+        fit_asks(&mut pending.asks, count)?;
+        Ok(pending)
     }
 
     /// Puts a clause into the set, with what it asks for.

@@ -12,13 +12,13 @@ ghost use Rattle.propagation.specs.Known.{AreListed};
 ghost use Rattle.propagation.specs.Pending.{PropagatorView};
 
 use crate::front::next;
-use crate::given::Given;
 use crate::known::{Known, list_from};
 use crate::marks::mark_pairs;
 use crate::pending::Pending;
-use crate::quiet::{no_quiet, raise};
-use crate::room::{all_kept, make_room};
+use crate::quiet::raise;
+use crate::room::make_room;
 use crate::scan::status_of;
+use crate::spare::Spare;
 use crate::steps::Steps;
 use crate::tables::Tables;
 use crate::take_slot::take_slot;
@@ -80,18 +80,23 @@ impl Drop for Propagator {
 }
 
 impl Propagator {
-    /// The clauses of a formula, all kept, where no variable has a value.
-    pub fn new(alloc: Global, formula: &Formula) -> Result<Propagator, Memory>
+    /// The clauses of a formula, all kept, on an empty trail, in the memory of tables that are done with.
+    fn over(
+        alloc: Global,
+        formula: &Formula,
+        trail: Trail,
+        spare: Spare,
+    ) -> Result<Propagator, Memory>
+        requires { trail ≡ record { variables = formula.now.variables; entries = [] } }
         ensures { IfOk result (λ p. p ≡ record { variables = formula.now.variables; clauses = formula.now.clauses; kept = replicate (length formula.now.clauses) true; entries = [] }) }
     {
+        // For the proof: the clauses are few and lawful.
+        let _lawful = formula.count();
         let variables = formula.variables();
-        let count = formula.count();
         let store = Store::new(alloc, formula)?;
-        let kept = all_kept(alloc, count)?;
-        let trail = Trail::new(alloc, variables)?;
         let pairs = PairIndex::new(alloc, formula)?;
-        let quiet = no_quiet(alloc, variables)?;
-        let given = Given::new(alloc, &store, formula, 2 * variables)?;
+        let spare = spare.fitted(alloc, &store, formula)?;
+        let Spare { kept, quiet, given } = spare;
         let steps = Steps::new(alloc, formula, &given.slots)?;
         Ok(Propagator {
             variables,
@@ -106,6 +111,32 @@ impl Propagator {
             lists: given.lists,
             quiet,
         })
+    }
+
+    /// The clauses of a formula, all kept, where no variable has a value.
+    pub fn new(alloc: Global, formula: &Formula) -> Result<Propagator, Memory>
+        ensures { IfOk result (λ p. p ≡ record { variables = formula.now.variables; clauses = formula.now.clauses; kept = replicate (length formula.now.clauses) true; entries = [] }) }
+    {
+        let trail = Trail::new(alloc, formula.variables())?;
+        Propagator::over(alloc, formula, trail, Spare::none(alloc))
+    }
+
+    /// The clauses of a formula, all kept, where no variable has a value, in the memory of a propagator that is done with. Where
+    /// memory is wanting, all of it is let go.
+    pub fn renewed(self, alloc: Global, formula: &Formula) -> Result<Propagator, Memory>
+        ensures { IfOk result (λ p. p ≡ record { variables = formula.now.variables; clauses = formula.now.clauses; kept = replicate (length formula.now.clauses) true; entries = [] }) }
+    {
+        let Propagator {
+            variables: _,
+            tables,
+            trail,
+            pairs: _,
+            lists,
+            quiet,
+        } = self;
+        let spare = tables.into_spare(lists, quiet);
+        let trail = trail.renewed(alloc, formula.variables())?;
+        Propagator::over(alloc, formula, trail, spare)
     }
 
     /// The trail.

@@ -1,13 +1,12 @@
 //! For which lengths of the trail below the whole one nothing is pending: so much is known without a look at the clauses, where
 //! the trail is taken back to one of them.
-ghost use Rattle.std.specs.Prelude.{◌≡◌, ℕ, ◌+◌, ◌*◌, ◌<◌, ◌≤◌, length, false, slice_index_or, IfOk};
+ghost use Rattle.std.specs.Prelude.{◌≡◌, ℕ, ◌+◌, ◌*◌, ◌<◌, ◌≤◌, length, false, slice_index_or, OnOk};
 ghost use Rattle.propagation.specs.Added.{IsRaised};
 
 use crate::enter::Entered;
 use crate::pending::Pending;
 use cdcl_trail::assignment::Assignment;
 use clause_base::memory::Memory;
-use std::alloc::Global;
 
 /// Takes the flags of the lengths from one up to another away.
 fn unquiet(quiet: &mut Vec<bool>, low: u32, high: u32)
@@ -46,10 +45,11 @@ pub fn raise(
     pending.put(number, entered.ask);
 }
 
-/// For each length of the trail up to the whole one, that something may be pending there.
-pub fn no_quiet(alloc: Global, variables: u32) -> Result<Vec<bool>, Memory>
+/// Makes the flags of the lengths of an empty trail over so many variables: there is none below the whole one, so that they are free.
+pub fn fit_quiet(quiet: &mut Vec<bool>, variables: u32) -> Result<(), Memory>
     requires { variables ≤ 2147483647 }
-    ensures { IfOk result (λ quiet. length quiet.items ≡ variables + 1) }
+    ensures { OnOk result (length quiet.new.items ≡ variables + 1) }
 {
-    Ok(vec![in alloc; false; variables as usize + 1]?)
+    quiet.resize(variables as usize + 1, false)?;
+    Ok(())
 }

@@ -1,34 +1,35 @@
 //! Room in the tables for clauses and slots to come: for one more of each, and for learned clauses from the beginning. After want of
 //! memory a table may have room for one more already, and nothing else has changed.
-ghost use Rattle.std.specs.Prelude.{◌≡◌, ℕ, ◌+◌, ◌*◌, ◌<◌, ◌≤◌, Option, length, replicate, true, vec_capacity, IfOk, OnOk};
+ghost use Rattle.std.specs.Prelude.{◌≡◌, ℕ, ◌+◌, ◌*◌, ◌<◌, ◌≤◌, Option, length, replicate, true, vec_capacity, OnOk};
 ghost use Rattle.clause_store.specs.Linked.{IsLinked, blocking_of};
 ghost use Rattle.propagation.specs.Added.{AreSame, AreWider, HasRoom, HasRoomBelow};
 
 use crate::tables::Tables;
 use crate::visit::Lists;
 use clause_store::chains::Chains;
-use std::alloc::{AllocError, Global};
+use clause_store::refill::refill;
+use std::alloc::AllocError;
 
 /// For so many learned clauses there is room in the tables of all clauses, and of all slots, from the beginning. Else the first one would have them moved
 /// to memory of twice the size.
 pub const LEARNED: usize = 4096;
 
-/// What so many clauses ask for that are not in the set, with room for learned ones.
-pub fn no_asks(alloc: Global, count: u32) -> Result<Vec<u32>, AllocError>
-    ensures { IfOk result (λ asks. length asks.items ≡ count) }
+/// Makes the table of what so many clauses ask for that are not in the set, with room for learned ones. What stands in it is free.
+pub fn fit_asks(asks: &mut Vec<u32>, count: u32) -> Result<(), AllocError>
+    ensures { OnOk result (length asks.new.items ≡ count) }
 {
-    let mut asks = vec![in alloc; 0; count as usize + LEARNED]?;
+    asks.resize(count as usize + LEARNED, 0)?;
     asks.truncate(count as usize);
-    Ok(asks)
+    Ok(())
 }
 
-/// The flags of so many clauses that are all kept, with room for learned ones.
-pub fn all_kept(alloc: Global, count: u32) -> Result<Vec<bool>, AllocError>
-    ensures { IfOk result (λ kept. kept.items ≡ replicate count true) }
+/// Makes the flags of so many clauses that are all kept, with room for learned ones.
+pub fn keep_all(kept: &mut Vec<bool>, count: u32) -> Result<(), AllocError>
+    ensures { OnOk result (kept.new.items ≡ replicate count true) }
 {
-    let mut kept = vec![in alloc; true; count as usize + LEARNED]?;
+    refill(kept, count as usize + LEARNED, true)?;
     kept.truncate(count as usize);
-    Ok(kept)
+    Ok(())
 }
 
 /// Makes the two nodes of a slot, where those of all slots before it are there.

@@ -2,7 +2,10 @@
 //! visited and where the first one that is pending is sought.
 ghost use Rattle.std.specs.Prelude.{◌≡◌, ◌<◌, length, false, slice_index, slice_index_or};
 
+use crate::given::Given;
+use crate::spare::Spare;
 use crate::steps::Steps;
+use crate::visit::Lists;
 use clause_store::store::Store;
 use containers::let_go;
 
@@ -23,6 +26,21 @@ impl Drop for Tables {
 }
 
 impl Tables {
+    /// What can be taken again of these tables, with those that are beside them.
+    pub fn into_spare(self, lists: Lists, quiet: Vec<bool>) -> Spare {
+        let Tables {
+            store: _,
+            kept,
+            slots,
+            steps: _,
+        } = self;
+        Spare {
+            kept,
+            quiet,
+            given: Given { slots, lists },
+        }
+    }
+
     /// The number of the clause of a slot.
     #[inline(always)]
     pub fn number_at(&self, slot: u32) -> u32

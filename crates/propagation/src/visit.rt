@@ -36,6 +36,18 @@ impl Drop for Lists {
 }
 
 impl Lists {
+    /// What it is made of.
+    pub fn into_parts(self) -> (Chains, Vec<u32>, Pending) {
+        let Lists {
+            chains,
+            froms,
+            pending,
+        } = self;
+        (chains, froms, pending)
+    }
+}
+
+impl Lists {
     /// Visits the clause of the node at a place of the chain of a literal that is false. The result is the place after it.
     #[inline(always)]
     fn visit(&mut self, tables: &Tables, assignment: &Assignment, code: u32, place: Place) -> Place

@@ -3,8 +3,8 @@ use Rattle.cdcl_rules.specs.State.{clause_at}
 use Rattle.propagation.specs.Given.{AreGiven}
 use Rattle.propagation.proofs.Givens.{given_none}
 use Rattle.propagation.proofs.Templates.{whole_long, told_two, steps_two, times_two, after_two, twos_of, after_parts}
-use Rattle.propagation.proofs.given.Given.new.Goals as goal
-use Rattle.propagation.proofs.given.Given.new.Goals.{In_ok-told, In_ok-stepped, In_ok-timed, In_ok-last}
+use Rattle.propagation.proofs.given.Given.renewed.Goals as goal
+use Rattle.propagation.proofs.given.Given.renewed.Goals.{In_ok-told, In_ok-stepped, In_ok-timed, In_ok-last}
 
 -- a list has so many clauses
 sized : {count : ℕ} {list own : List (List ℕ)} → count ≡ length list → list ≡ own → count ≡ length own

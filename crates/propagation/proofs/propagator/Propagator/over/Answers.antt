@@ -1,40 +1,34 @@
-use Rattle.std.proofs.Common.{arith, ◌≡◌, ◌*◌, ◌≤◌, ℕ, List, true, length, replicate, ap, sym, ◌∙◌, subst, refl}
+use Rattle.std.proofs.Common.{arith, ◌≡◌, ◌*◌, ◌≤◌, ◌+◌, ◌∙◌, ℕ, List, true, length, replicate, ap, sym, subst, refl}
 use Rattle.cdcl_trail.specs.Assignment.{literals}
 use Rattle.cdcl_trail.specs.Mirrored.{TrailView}
 use Rattle.clause_store.specs.Pairs.{IsIndex}
 use Rattle.propagation.specs.declared.tables.Tables.{Tables}
+use Rattle.propagation.specs.Given.{AreGiven}
 use Rattle.propagation.specs.Steps.{AreStepped}
-use Rattle.propagation.specs.Visit.{IsFit}
-use Rattle.propagation.proofs.Givens.{fit_given, sound_given, paired_given}
-use Rattle.propagation.proofs.propagator.Propagator.new.Goals as goal
-use Rattle.propagation.proofs.propagator.Propagator.new.Goals.{After-count-count}
-
-fit_store : (c : After-count-count) (store : List (List ℕ)) → store ≡ c.args.formula.now.clauses → IsFit store (2 * c.variables-variables.result)
-fit_store c store e =
-    subst (λ (n : ℕ). IsFit store (2 * n)) (sym c.variables-variables.ensures.value)
-    (subst (λ (cs : List (List ℕ)). IsFit cs (2 * c.args.formula.now.variables)) (sym e)
-    (fit_given c.args.formula.now.variables c.args.formula.now.clauses c.variables-variables.ensures.small c.count-count.ensures.lawful c.variables-variables.ensures.below))
-
-pub new-requires-4-clause-fit : goal.new-requires-4-clause-fit
-new-requires-4-clause-fit c = fit_store (goal.at.new-requires-4-clause-fit c).After-count-count c.in_ok-store.store c.in_ok-store.ensures
+use Rattle.propagation.proofs.Givens.{fit_store, sound_given, paired_given}
+use Rattle.propagation.proofs.propagator.Propagator.over.Goals as goal
 
 pub invariant_of-result : goal.invariant_of-result
 invariant_of-result c =
     let v = c.variables-variables.result in
+    let f = c.args.formula.now in
+    let n = c.variables-variables.ensures.value in
     let store = c.in_ok-store.store in
-    let g = c.in_ok-given.given in
-    let t : Tables = record { store = store; kept = c.in_ok-kept.kept; slots = g.slots; steps = c.in_ok-steps.steps } in
-    let all : length store ≡ c.count-count.result = (let e = ap (λ (cs : List (List ℕ)). length cs) c.in_ok-store.ensures in omega (arith, e, c.count-count.ensures.value)) in
-    let f = fit_store (goal.at.invariant_of-result c).After-count-count store c.in_ok-store.ensures in
-    let small : v ≤ 2147483647 = omega (arith, c.variables-variables.ensures.small, c.variables-variables.ensures.value) in
-    let trail = ap (λ (t : TrailView). literals t.entries) c.in_ok-trail.ensures in
-    let kept = c.in_ok-kept.ensures ∙ ap (λ (n : ℕ). replicate n true) (sym all) in
-    let index = subst (λ (n : ℕ). IsIndex n store c.in_ok-pairs.pairs) (sym c.variables-variables.ensures.value)
-    (subst (λ (cs : List (List ℕ)). IsIndex c.args.formula.now.variables cs c.in_ok-pairs.pairs) (sym c.in_ok-store.ensures) c.in_ok-pairs.ensures) in (
-      sound_given v t g (literals c.in_ok-trail.trail.entries) c.in_ok-quiet.quiet.items small
-          (omega (arith, all, c.count-count.ensures.few, c.count-count.ensures.value)) f kept refl trail c.in_ok-given.ensures c.in_ok-quiet.ensures
-          (subst (λ (cs : List (List ℕ)). AreStepped cs g.slots.items c.in_ok-steps.steps) (sym c.in_ok-store.ensures)
-          (subst (λ (ss : List ℕ). AreStepped c.args.formula.now.clauses ss c.in_ok-steps.steps) c.deref.ensures.value c.in_ok-steps.ensures)),
-      paired_given v store g c.in_ok-pairs.pairs c.in_ok-given.ensures index,
-      ap (λ (t : TrailView). t.variables) c.in_ok-trail.ensures,
+    let same = c.in_ok-store.ensures in
+    let s = c.in_ok-spare.spare in
+    let g = s.given in
+    let t : Tables = record { store = store; kept = s.kept; slots = g.slots; steps = c.in_ok-steps.steps } in
+    let few : length store ≤ 1073741824 = (let e = ap (λ (cs : List (List ℕ)). length cs) same in omega (arith, e, c.count-lawful.ensures.few, c.count-lawful.ensures.value)) in
+    let fit = fit_store v f.variables store f.clauses n same c.variables-variables.ensures.small c.count-lawful.ensures.lawful c.variables-variables.ensures.below in
+    let given = subst (λ (k : ℕ). AreGiven (2 * k) store (length store) g) (sym n) c.in_ok-spare.ensures.given in
+    let kept = c.in_ok-spare.ensures.kept ∙ ap (λ (cs : List (List ℕ)). replicate (length cs) true) (sym same) in
+    let quiet : length s.quiet.items ≡ v + 1 = omega (arith, c.in_ok-spare.ensures.quiet, n) in
+    let small : v ≤ 2147483647 = omega (arith, c.variables-variables.ensures.small, n) in
+    let steps = subst (λ (cs : List (List ℕ)). AreStepped cs g.slots.items c.in_ok-steps.steps) (sym same)
+    (subst (λ (ss : List ℕ). AreStepped f.clauses ss c.in_ok-steps.steps) c.deref.ensures.value c.in_ok-steps.ensures) in
+    let index = subst (λ (k : ℕ). IsIndex k store c.in_ok-pairs.pairs) (sym n)
+    (subst (λ (cs : List (List ℕ)). IsIndex f.variables cs c.in_ok-pairs.pairs) (sym same) c.in_ok-pairs.ensures) in (
+      sound_given v t g (literals c.args.trail.entries) s.quiet.items small few fit kept refl (ap (λ (w : TrailView). literals w.entries) c.requires) given quiet steps,
+      paired_given v store g c.in_ok-pairs.pairs given index,
+      ap (λ (w : TrailView). w.variables) c.requires ∙ sym n,
     )

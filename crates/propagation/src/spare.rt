@@ -1,0 +1,50 @@
+//! Tables of clauses that are done with: those of the next formula's clauses are made in their memory.
+ghost use Rattle.std.specs.Prelude.{◌≡◌, ◌+◌, ◌*◌, length, replicate, true, IfOk};
+ghost use Rattle.propagation.specs.Given.{AreGiven};
+
+use crate::given::Given;
+use crate::quiet::fit_quiet;
+use crate::room::keep_all;
+use clause_base::formula::Formula;
+use clause_base::memory::Memory;
+use clause_store::store::Store;
+use std::alloc::Global;
+
+/// The tables by clause, by slot and by length of the trail.
+#[derive(Drop)]
+pub struct Spare {
+    pub kept: Vec<bool>,
+    pub quiet: Vec<bool>,
+    pub given: Given,
+}
+
+impl Spare {
+    /// Tables without room. It takes no memory.
+    pub fn none(alloc: Global) -> Spare {
+        Spare {
+            kept: Vec::new(alloc),
+            quiet: Vec::new(alloc),
+            given: Given::none(alloc),
+        }
+    }
+
+    /// The tables of the clauses of a formula, of which a store has a copy: all are kept, and no literal is true.
+    pub fn fitted(self, alloc: Global, store: &Store, formula: &Formula) -> Result<Spare, Memory>
+        requires { store.now ≡ formula.now.clauses }
+        ensures kept { IfOk result (λ s. s.kept.items ≡ replicate (length formula.now.clauses) true) }
+        ensures quiet { IfOk result (λ s. length s.quiet.items ≡ formula.now.variables + 1) }
+        ensures given { IfOk result (λ s. AreGiven (2 * formula.now.variables) store.now (length store.now) s.given) }
+    {
+        let Spare {
+            mut kept,
+            mut quiet,
+            given,
+        } = self;
+        let variables = formula.variables();
+        let count = formula.count();
+        keep_all(&mut kept, count)?;
+        fit_quiet(&mut quiet, variables)?;
+        let given = given.renewed(alloc, store, formula, 2 * variables)?;
+        Ok(Spare { kept, quiet, given })
+    }
+}
