@@ -1,7 +1,7 @@
 -- A formula's parts: what is added at the end, and clauses by their numbers.
-use Rattle.std.proofs.Common.{arith, ◌≡◌, ℕ, ◌+◌, ◌-◌, ◌<◌, ◌≤◌, List, [], ◌∷◌, ◌++◌, length, length-append, append-nil, append_assoc, refl, sym, ap, ◌∙◌, subst, get_or, take, Some, All, Result, Ok, Err, OnOk, OnErr}
+use Rattle.std.proofs.Common.{arith, ◌≡◌, ℕ, ◌+◌, ◌-◌, ◌<◌, ◌≤◌, List, [], ◌∷◌, ◌++◌, length, length-append, append_assoc, refl, sym, ap, ◌∙◌, subst, get_or, take, Some, All, Result, Ok, Err, OnOk, OnErr}
 use Rattle.std.specs.List.{slice_get}
-use Rattle.std.proofs.lemmas.List.{take_more, length-take}
+use Rattle.std.proofs.lemmas.List.{take_more}
 use Rattle.std.proofs.lemmas.Option.{slice_get_within, get_or_from_slice_get}
 use Rattle.std.proofs.lemmas.List.Elements.{All-append, All-nil, All-cons}
 use Rattle.clause_base.specs.Clause.{HasVariablesBelow}
@@ -10,7 +10,7 @@ use Rattle.clause_base.specs.Repeats.{Repeats, repeated, variables_of}
 use Rattle.clause_base.specs.Joined.{joined, IsJoined}
 use Rattle.containers.specs.declared.memory.Memory.{Memory}
 use Rattle.clause_base.proofs.PieceLemmas.{holds_at}
-use Rattle.clause_base.proofs.RepeatLemmas.{get_left, get_right}
+use Rattle.clause_base.proofs.RepeatLemmas.{get_right}
 
 -- one more clause at the end
 pub joined_more : (told : List (List ℕ)) (part : Repeats) (after : List (List ℕ)) (clause : List ℕ) → joined told part (after ++ clause ∷ []) ≡ joined told part after ++ clause ∷ []
@@ -63,21 +63,6 @@ joined_part name variables told old after part now none t r v is te t0 re r0 emp
     let below_here = subst (λ (x : List (List ℕ)). All (HasVariablesBelow variables) x) whole is.below in
     subst (λ (x : List (List ℕ)). IsJoined variables after part x) (sym empty) (joined_first variables after part is.small below_here fits_here below room_here)
 
-pub repeat_is : (name variables : ℕ) (told : List (List ℕ)) (old : Repeats) (after : List (List ℕ)) (part : Repeats) (now : Cnf) (none : List (List ℕ)) (t r : ℕ) → record { name = name; variables = variables; clauses = joined told old after } ≡ now → t ≡ length told → t ≡ 0 → r ≡ length (repeated old) → r ≡ 0 → none ≡ [] → record { name = name; variables = variables; clauses = joined after part none } ≡ record now { clauses = now.clauses ++ repeated part }
-repeat_is name variables told old after part now none t r v te t0 re r0 empty =
-    ap (λ (x : List (List ℕ)). let f : Cnf = record { name = name; variables = variables; clauses = joined after part x } in f) empty
-    ∙ ap (λ (x : List (List ℕ)). let f : Cnf = record { name = name; variables = variables; clauses = after ++ x } in f) (append-nil (repeated part))
-    ∙ ap (λ (x : List (List ℕ)). let f : Cnf = record { name = name; variables = variables; clauses = x ++ repeated part } in f) (sym (joined_only told old after (sym te ∙ t0) (sym re ∙ r0)))
-    ∙ ap (λ (f : Cnf). let g : Cnf = record f { clauses = f.clauses ++ repeated part } in g) v
-
--- a clause before the repeated ones
-pub told_at : (told rest : List (List ℕ)) (number : ℕ) (c : List ℕ) → slice_get told number ≡ Some c → slice_get (told ++ rest) number ≡ Some c
-told_at told rest number c at = get_left told rest number (slice_get_within told number c at) ∙ at
-
--- a repeated one
-pub repeated_at : (told rep after : List (List ℕ)) (number t : ℕ) (c : List ℕ) → t ≡ length told → t ≤ number → slice_get rep (number - t) ≡ Some c → slice_get (told ++ (rep ++ after)) number ≡ Some c
-repeated_at told rep after number t c a h at = get_right told (rep ++ after) number (number - t) (omega arith) ∙ told_at rep after (number - t) c at
-
 -- a clause after the repeated ones
 pub after_at : (told rep after : List (List ℕ)) (number t k : ℕ) (c : List ℕ) → t ≡ length told → k ≡ length rep → t ≤ number → k ≤ number - t → slice_get after (number - t - k) ≡ Some c → slice_get (told ++ (rep ++ after)) number ≡ Some c
 after_at told rep after number t k c a b h l at =
@@ -96,11 +81,3 @@ written_more old new first all number c lits i at e n =
     ∙ ap (λ (x : List ℕ). let f : Cnf = record old { clauses = old.clauses ++ x ∷ [] } in f) (e ∙ sym (get_or_from_slice_get all number c c at))
     ∙ ap (λ (o : Cnf). let f : Cnf = record o { clauses = o.clauses ++ get_or all number c ∷ [] } in f) i
     ∙ ap (λ (x : List (List ℕ)). let f : Cnf = record first { clauses = x } in f) (append_assoc first.clauses (take number all) (get_or all number c ∷ []) ∙ ap (λ (x : List (List ℕ)). first.clauses ++ x) (sym (take_more all number c (slice_get_within all number c at))))
-
--- and there is room for it
-pub written_room : (old first : Cnf) (all : List (List ℕ)) (number : ℕ) → old ≡ record first { clauses = first.clauses ++ take number all } → number < length all → length first.clauses + length all ≤ 1073741824 → length old.clauses < 1073741824
-written_room old first all number i lt room =
-    let l = ap (λ (f : Cnf). length f.clauses) i in
-    let m = length-append first.clauses (take number all) in
-    let t = length-take number all in
-    omega arith

@@ -1,14 +1,8 @@
--- Lists of clauses, by their numbers and with one more at the end.
-use Rattle.std.proofs.Common.{◌≡◌, ℕ, ◌+◌, List, [], ◌∷◌, ◌++◌, drop, ap, ◌∙◌, subst, Some, All}
+-- Lists of clauses, by their numbers.
+use Rattle.std.proofs.Common.{◌≡◌, ℕ, ◌+◌, List, ◌∷◌, drop, ap, ◌∙◌, subst, Some, All}
 use Rattle.std.specs.List.{slice_get}
-use Rattle.std.proofs.lemmas.List.Elements.{All-append, All-nil, All-cons}
 use Rattle.std.proofs.lemmas.List.{drop_more}
 use Rattle.std.proofs.lemmas.Option.{slice_get_within, get_or_from_slice_get}
-use Rattle.clause_base.specs.Clause.{IsClause}
-
--- one more clause among lawful ones
-pub clauses-push : (clauses : List (List ℕ)) (clause : List ℕ) → All IsClause clauses → IsClause clause → All IsClause (clauses ++ clause ∷ [])
-clauses-push clauses clause a c = All-append IsClause clauses (clause ∷ []) a (All-cons IsClause clause [] c (All-nil IsClause))
 
 -- what holds of each clause holds of the one with a number
 pub holds_at : (P : List ℕ → Type 0) (clauses : List (List ℕ)) (number : ℕ) (clause : List ℕ) → All P clauses → slice_get clauses number ≡ Some clause → P clause

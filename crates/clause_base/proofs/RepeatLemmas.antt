@@ -170,13 +170,6 @@ module _ (r : Repeats) (part begin : ℕ) (b : begin ≡ facts_at r part) where
   time_same : (l : ℕ) → moved_code 0 0 (r.horizon * r.width + part * r.facts) l ≡ shifted 0 0 begin l
   time_same l = moved_shifted 0 0 (r.horizon * r.width + part * r.facts) 0 begin l refl (omega (arith, b))
 
-  step_stays : (c : List ℕ) → IsRepeatable r → part < r.horizon → HasVariablesBelow (r.width + 2 * r.facts) c → All (StaysCode (2 * r.width) (part * (2 * r.width)) (begin - 2 * r.width)) c
-  step_stays c is lt h k d i fits =
-      let m = step_room r.horizon r.width r.facts part _ lt (h k d i) in
-      let e = step_same _ lt in
-      let s = is.small in
-      subst (λ (x : ℕ). x ≤ 4294967295) e (omega arith)
-
   time_stays : (c : List ℕ) → IsRepeatable r → part < r.horizon + 1 → HasVariablesBelow r.facts c → All (StaysCode 0 0 begin) c
   time_stays c is lt h k d i fits =
       let m = time_room r.horizon r.width r.facts part _ lt (h k d i) in
@@ -220,23 +213,10 @@ numbered n s number count e lt =
     let p = part_of number n count (subst (λ (k : ℕ). number < n * k) (sym e) lt) in
     (p.1, subst (λ (k : ℕ). number % count < k) e p.2, ap (λ (k : ℕ). number / count * k + number % count) (sym e) ∙ p.3)
 
--- the numbers of a step and of a time fit
-pub step_fits : (r now : Repeats) (step : ℕ) → r ≡ now → IsRepeatable r → step < now.horizon → step * (2 * r.width) ≤ 4294967294
-step_fits r now step v is lt =
-    let q : step ≤ r.horizon = let here = subst (λ (x : Repeats). step < x.horizon) (sym v) lt in omega arith in
-    omega (arith, is.small, mul-le-mul_right r.width q)
-
-pub time_fits : (r now : Repeats) (time first : ℕ) → r ≡ now → IsRepeatable r → time ≤ now.horizon → first ≡ r.horizon * r.width → first + time * r.facts ≤ 2147483647
-time_fits r now time first v is le f =
-    omega (arith, f, is.small, mul-le-mul_right r.facts (subst (λ (x : Repeats). time ≤ x.horizon) (sym v) le))
-
 -- where the view is `now`, the clause of a step or a time is read by its place
 module _ (r now : Repeats) (part begin place : ℕ) (lits : List ℕ) (v : r ≡ now) (b : begin ≡ facts_at now part) where
   at_view : begin ≡ facts_at r part
   at_view = subst (λ (x : Repeats). begin ≡ facts_at x part) (sym v) b
-
-  pub step_stays_at : IsRepeatable r → part < now.horizon → slice_get r.step place ≡ Some lits → All (StaysCode (2 * r.width) (part * (2 * r.width)) (begin - 2 * r.width)) lits
-  step_stays_at is lt at = step_stays r part begin at_view lits is (subst (λ (x : Repeats). part < x.horizon) (sym v) lt) (holds_at (HasVariablesBelow (r.width + 2 * r.facts)) r.step place lits is.step_below at)
 
   pub time_stays_at : IsRepeatable r → part < now.horizon + 1 → slice_get r.time place ≡ Some lits → All (StaysCode 0 0 begin) lits
   time_stays_at is lt at = time_stays r part begin at_view lits is (subst (λ (x : Repeats). part < x.horizon + 1) (sym v) lt) (holds_at (HasVariablesBelow r.facts) r.time place lits is.time_below at)

@@ -9,9 +9,6 @@ pub fill-requires-clause-within : goal.fill-requires-clause-within
 fill-requires-clause-within c = λ x h.
     omega (arith, end_within c.args.clauses.now c.in_ok-offsets.offsets.items x c.in_ok-offsets.ensures.counted (omega (arith, h, c.ends_of-all.ensures.long)), c.ends_of-all.ensures.all, c.in_ok-items.ensures.len)
 
-pub counted-requires-clause-below : goal.counted-requires-clause-below
-counted-requires-clause-below c = λ k d h j e g. omega (arith, c.variables_below.ensures.enough k d h j e g)
-
 pub returns : goal.returns
 returns c =
     let codes = 2 * c.variables_below.result in

@@ -1,12 +1,8 @@
-use Rattle.std.proofs.Common.{arith}
 use Rattle.clause_base.proofs.RepeatLemmas.{count_value, lawful_now, below_now}
 use Rattle.clause_base.proofs.repeated.Repeated.count.Goals as goal
 
 pub returns-clause-value : goal.returns-clause-value
 returns-clause-value c = count_value _ _ _ c.self.view_is c.self.invariant.all_are
-
-pub returns-clause-few : goal.returns-clause-few
-returns-clause-few c = let e = c.self.invariant.all_are in let f = c.self.invariant.is.few in omega arith
 
 pub returns-clause-lawful : goal.returns-clause-lawful
 returns-clause-lawful c = lawful_now _ _ c.self.view_is c.self.invariant.is c.self.invariant.step_lawful c.self.invariant.time_lawful

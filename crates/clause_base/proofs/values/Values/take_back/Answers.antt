@@ -1,8 +1,8 @@
-use Rattle.std.proofs.Common.{arith, ◌∙◌, ◌≤◌, ◌/◌, ◌%◌, ◌==◌, ℕ, false, Some, None, ap, sym, subst, length-set}
+use Rattle.std.proofs.Common.{arith, ◌∙◌, ◌/◌, ◌%◌, ◌==◌, ℕ, false, Some, None, ap}
 use Rattle.std.specs.List.{slice_set}
 use Rattle.clause_base.specs.Choice.{Known}
-use Rattle.clause_base.specs.ValueTruths.{values_of, AreTruths}
-use Rattle.clause_base.proofs.ValueLemmas.{literal_got, values-set, truths_changed, elsewhere_set, value_taken}
+use Rattle.clause_base.specs.ValueTruths.{values_of}
+use Rattle.clause_base.proofs.ValueLemmas.{literal_got, values-set, elsewhere_set, value_taken}
 use Rattle.clause_base.proofs.values.Values.take_back.Goals as goal
 
 pub index_mut-requires : goal.index_mut-requires
@@ -10,17 +10,6 @@ index_mut-requires c =
     let w = c.self.inside in
     let got = literal_got w.variables w.low c.args.lit w.on.items c.args.self.now (Some (c.args.lit % 2 == 0)) c.self.invariant c.self.view_is c.requires in
     omega (arith, got.2, c.lit.view_is, w.on.ok)
-
-pub invariant_of-self : goal.invariant_of-self
-invariant_of-self c =
-    let w = c.self.inside in
-    let got = literal_got w.variables w.low c.args.lit w.on.items c.args.self.now (Some (c.args.lit % 2 == 0)) c.self.invariant c.self.view_is c.requires in
-    let v = c.args.lit / 2 in
-    let now = value_taken w.on.items c.args.lit got.2 (c.self.invariant.one (c.args.lit / 2)) got.1 in
-    let less : (c.min-self-inside.result ≤ w.low) × (c.min-self-inside.result ≤ v) = (omega (arith, c.min-self-inside.ensures), omega (arith, c.min-self-inside.ensures, c.lit.view_is)) in
-    subst (λ (l : ℕ). AreTruths w.variables c.min-self-inside.result (slice_set w.on.items l false)) (sym c.lit.view_is)
-    (truths_changed w.variables w.low c.min-self-inside.result v w.on.items (slice_set w.on.items c.args.lit false) c.self.invariant (length-set w.on.items c.args.lit false)
-    (elsewhere_set w.on.items c.args.lit false) now.1 less.0 (λ z. less.1))
 
 pub returns : goal.returns
 returns c =

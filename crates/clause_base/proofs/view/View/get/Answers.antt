@@ -1,7 +1,7 @@
 use Rattle.std.proofs.Common.{arith, ◌≡◌, ◌<◌, ◌∙◌, List, ℕ, Some, length, map, sym, ap, refl}
 use Rattle.std.specs.List.{slice_get}
 use Rattle.std.specs.Option.{option_map}
-use Rattle.std.proofs.lemmas.Option.{slice_get-map, slice_get_read, get_or_from_slice_get}
+use Rattle.std.proofs.lemmas.Option.{slice_get-map, slice_get_read}
 use Rattle.clause_base.specs.View.{shifted}
 use Rattle.clause_base.proofs.PieceLemmas.{drop_at}
 use Rattle.clause_base.proofs.RepeatLemmas.{length_map}
@@ -14,20 +14,6 @@ read_at f lits now place lit moved v lt at is =
 
 within : (f : ℕ → ℕ) (lits now : List ℕ) (place : ℕ) → map f lits ≡ now → place < length now → place < length lits
 within f lits now place v lt = let l = length_map f lits in let e = ap (λ (xs : List ℕ). length xs) v in omega arith
-
-pub returns-clause-value : goal.returns-clause-value
-returns-clause-value c =
-    let v = c.self.inside in
-    let lt = within (shifted v.limit v.low v.high) v.lits.now c.args.self.now c.args.place c.self.view_is c.requires in
-    read_at (shifted v.limit v.low v.high) v.lits.now c.args.self.now c.args.place c.index-lits-place.result c.shifted.result c.self.view_is lt
-    (slice_get_read v.lits.now (length v.lits.now) c.args.place c.index-lits-place.result refl lt c.index-lits-place.is) c.shifted.ensures
-
-pub returns-clause-item : goal.returns-clause-item
-returns-clause-item c =
-    let v = c.self.inside in
-    let lt = within (shifted v.limit v.low v.high) v.lits.now c.args.self.now c.args.place c.self.view_is c.requires in
-    sym (get_or_from_slice_get c.args.self.now c.args.place c.shifted.result c.shifted.result (read_at (shifted v.limit v.low v.high) v.lits.now c.args.self.now c.args.place c.index-lits-place.result c.shifted.result c.self.view_is lt
-    (slice_get_read v.lits.now (length v.lits.now) c.args.place c.index-lits-place.result refl lt c.index-lits-place.is) c.shifted.ensures))
 
 pub returns-clause-rest : goal.returns-clause-rest
 returns-clause-rest c =
