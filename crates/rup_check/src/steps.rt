@@ -11,7 +11,7 @@ use clause_log::reader::Kind;
 
 /// Whether an entry learns the empty clause.
 pub fn learns_empty(kind: Kind<'_>) -> bool
-    ensures { (hints : List ℕ) → result ≡ learns_empty (told_by kind hints) }
+    ensures { (hints : List ℕ) → result ≡ learns_empty (told_by kind.entry hints) }
 {
     match kind {
         Kind::Learn { clause } => clause.len() == 0,
@@ -23,8 +23,8 @@ pub fn learns_empty(kind: Kind<'_>) -> bool
 pub fn take_step(checker: &mut Checker<'_>, kind: Kind<'_>, hints: &[u32]) -> Result<bool, Memory>
     requires { IsLawfulBy kind }
     ensures formula { checker.new.formula ≡ checker.old.formula }
-    ensures answer { (log : List Entry) → HasTaken checker.old log → IfOk result (λ taken. taken ≡ is_derived_after checker.old.formula.variables checker.old.formula.clauses log (Some (told_by kind hints.now))) }
-    ensures taken { (log : List Entry) → HasTaken checker.old log → result ≡ Ok true → HasTaken checker.new (log ++ told_by kind hints.now ∷ []) }
+    ensures answer { (log : List Entry) → HasTaken checker.old log → IfOk result (λ taken. taken ≡ is_derived_after checker.old.formula.variables checker.old.formula.clauses log (Some (told_by kind.entry hints.now))) }
+    ensures taken { (log : List Entry) → HasTaken checker.old log → result ≡ Ok true → HasTaken checker.new (log ++ told_by kind.entry hints.now ∷ []) }
 {
     match kind {
         Kind::Learn { clause } => checker.learn(clause, hints),
