@@ -1,4 +1,3 @@
-use Rattle.std.proofs.Common.{Ok}
 use Rattle.clause_log.proofs.NumbersLaws.{first_still}
 use Rattle.clause_log.proofs.HeldLaws.{both_by}
 use Rattle.clause_log.proofs.steps.put_hints.Goals as goal

@@ -1,4 +1,4 @@
-use Rattle.std.proofs.Common.{ℕ, length, sym, ap, ◌∙◌}
+use Rattle.std.proofs.Common.{length, sym, ap, ◌∙◌}
 use Rattle.clause_log.specs.Placed.{numbers_at}
 use Rattle.clause_log.specs.declared.numbers.Place.{Place}
 use Rattle.clause_log.proofs.NumbersLaws.{length-numbers_of}
