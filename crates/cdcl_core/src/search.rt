@@ -213,10 +213,11 @@ impl Search {
         ensures formula { self.new.formula ≡ self.old.formula }
         ensures spoilt { OnErr result (self.new.spoilt ≡ true) }
     {
-        let clause = new.lits.as_slice();
-        let is_empty = clause.is_empty();
+        let clause = &new.lits;
+        let lits = clause.as_slice();
+        let is_empty = lits.is_empty();
         let is_restart = self.is_restart();
-        let level = self.level_after(clause);
+        let level = self.level_after(lits);
         self.spoilt = true;
         self.clauses.learn(clause, new.hints.as_slice())?;
         if is_empty {

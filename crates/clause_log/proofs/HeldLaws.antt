@@ -9,53 +9,34 @@ use Rattle.clause_log.proofs.NumbersLaws.{numbers_back, after_numbers_back}
 use Rattle.clause_base.specs.Derivation.{clauses_of}
 use Rattle.clause_base.specs.declared.log.Entry.{Entry}
 use Rattle.clause_base.specs.declared.log.Entry.TheVariants.{Learn, Drop}
-use Rattle.clause_log.specs.Held.{entry_bytes, log_bytes, after_hints, entry_of, after_entry, entries_of, AreFew, IsSmall, AreSmall, IsHeld}
+use Rattle.clause_log.specs.Held.{hint_bytes, entry_bytes, log_bytes, entry_of, clauses_after, after_entry, entries_of, AreFew, IsSmall, AreSmall, IsHeld}
 
--- numbers that are counted first come back, and so does what follows them
-record AreBack (bytes numbers rest : List ℕ) : Type 0 where
-  are : numbers_of (number_of bytes) 0 (after_number bytes) ≡ numbers
-  after : after_numbers (number_of bytes) (after_number bytes) ≡ rest
-
-counted_back : (numbers rest : List ℕ) → AreFew numbers → AreBack ((bytes_of (length numbers) ++ steps_of 0 numbers) ++ rest) numbers rest
-counted_back numbers rest s =
-    let bytes = (bytes_of (length numbers) ++ steps_of 0 numbers) ++ rest in
-    let tail = steps_of 0 numbers ++ rest in
-    let parts : bytes ≡ bytes_of (length numbers) ++ tail = append_assoc (bytes_of (length numbers)) (steps_of 0 numbers) rest in
-    let fits : length numbers < 2 ^ 64 = omega (arith, s.few) in
-    let size : number_of bytes ≡ length numbers = ap number_of parts ∙ number_back (length numbers) tail fits in
-    let left : after_number bytes ≡ tail = ap after_number parts ∙ after_back (length numbers) tail fits in
-    record {
-      are = (λ i. numbers_of (size i) 0 (left i)) ∙ numbers_back 0 numbers rest (omega arith) s.small;
-      after = (λ i. after_numbers (size i) (left i)) ∙ after_numbers_back 0 numbers rest (omega arith) s.small;
-    }
-
--- the first entry, and what is left of the bytes after it
-record IsFirst (entry : Entry) (bytes rest : List ℕ) : Type 0 where
-  is : entry_of bytes ≡ entry
+-- the first entry, and what is left of the clauses and of the bytes after it
+record IsFirst (entry : Entry) (clauses others : List (List ℕ)) (bytes rest : List ℕ) : Type 0 where
+  is : entry_of clauses bytes ≡ entry
+  others_are : clauses_after clauses bytes ≡ others
   after : after_entry bytes ≡ rest
 
-first_learn : (clause hints rest : List ℕ) → IsSmall (Learn clause hints) → IsFirst (Learn clause hints) (entry_bytes (Learn clause hints) ++ rest) rest
-first_learn clause hints rest s =
-    let bytes = entry_bytes (Learn clause hints) ++ rest in
-    let literals = (bytes_of (length clause) ++ steps_of 0 clause) ++ rest in
-    let tail = steps_of 0 hints ++ literals in
-    let parts : bytes ≡ bytes_of (2 * length hints) ++ tail = append_assoc (bytes_of (2 * length hints) ++ steps_of 0 hints) (bytes_of (length clause) ++ steps_of 0 clause) rest ∙ append_assoc (bytes_of (2 * length hints)) (steps_of 0 hints) literals in
-    let fits : 2 * length hints < 2 ^ 64 = omega (arith, s.2.few) in
+first_learn : (clause hints rest : List ℕ) (others : List (List ℕ)) → AreFew hints → IsFirst (Learn clause hints) (clause ∷ others) others (hint_bytes hints ++ rest) rest
+first_learn clause hints rest others s =
+    let bytes = hint_bytes hints ++ rest in
+    let tail = steps_of 0 hints ++ rest in
+    let parts : bytes ≡ bytes_of (2 * length hints) ++ tail = append_assoc (bytes_of (2 * length hints)) (steps_of 0 hints) rest in
+    let fits : 2 * length hints < 2 ^ 64 = omega (arith, s.few) in
     let head : number_of bytes ≡ 2 * length hints = ap number_of parts ∙ number_back (2 * length hints) tail fits in
     let half : number_of bytes / 2 ≡ length hints = omega (arith, head) in
     let even : (number_of bytes % 2 == 0) ≡ true = grind (arith, nat_tests, head) in
     let left : after_number bytes ≡ tail = ap after_number parts ∙ after_back (2 * length hints) tail fits in
-    let hints_are : numbers_of (number_of bytes / 2) 0 (after_number bytes) ≡ hints = (λ i. numbers_of (half i) 0 (left i)) ∙ numbers_back 0 hints literals (omega arith) s.2.small in
-    let then_is : after_hints bytes ≡ literals = (λ i. after_numbers (half i) (left i)) ∙ after_numbers_back 0 hints literals (omega arith) s.2.small in
-    let back = counted_back clause rest s.1 in
-    let clause_is : numbers_of (number_of (after_hints bytes)) 0 (after_number (after_hints bytes)) ≡ clause = ap (λ (bs : List ℕ). numbers_of (number_of bs) 0 (after_number bs)) then_is ∙ back.are in
+    let hints_are : numbers_of (number_of bytes / 2) 0 (after_number bytes) ≡ hints = (λ i. numbers_of (half i) 0 (left i)) ∙ numbers_back 0 hints rest (omega arith) s.small in
+    let after_is : after_numbers (number_of bytes / 2) (after_number bytes) ≡ rest = (λ i. after_numbers (half i) (left i)) ∙ after_numbers_back 0 hints rest (omega arith) s.small in
     record {
-      is = rw even (λ i. Learn (clause_is i) (hints_are i));
-      after = rw even (ap (λ (bs : List ℕ). after_numbers (number_of bs) (after_number bs)) then_is ∙ back.after);
+      is = rw even (ap (λ (ns : List ℕ). Learn clause ns) hints_are);
+      others_are = rw even refl;
+      after = rw even after_is;
     }
 
-first_drop : (number : ℕ) (rest : List ℕ) → IsSmall (Drop number) → IsFirst (Drop number) (entry_bytes (Drop number) ++ rest) rest
-first_drop number rest s =
+first_drop : (number : ℕ) (rest : List ℕ) (clauses : List (List ℕ)) → number < 2 ^ 32 → IsFirst (Drop number) clauses clauses (bytes_of (2 * number + 1) ++ rest) rest
+first_drop number rest clauses s =
     let bytes = bytes_of (2 * number + 1) ++ rest in
     let fits : 2 * number + 1 < 2 ^ 64 = omega (arith, s) in
     let head : number_of bytes ≡ 2 * number + 1 = number_back (2 * number + 1) rest fits in
@@ -63,22 +44,23 @@ first_drop number rest s =
     let odd : (number_of bytes % 2 == 0) ≡ false = grind (arith, nat_tests, head) in
     record {
       is = rw odd (ap (λ (n : ℕ). Drop n) half);
+      others_are = rw odd refl;
       after = rw odd (after_back (2 * number + 1) rest fits);
     }
 
-first_of : (entry : Entry) (rest : List ℕ) → IsSmall entry → IsFirst entry (entry_bytes entry ++ rest) rest
-first_of (Learn clause hints) rest s = first_learn clause hints rest s
-first_of (Drop number) rest s = first_drop number rest s
+first_of : (entry : Entry) (log : List Entry) (rest : List ℕ) → IsSmall entry → IsFirst entry (clauses_of (entry ∷ log)) (clauses_of log) (entry_bytes entry ++ rest) rest
+first_of (Learn clause hints) log rest s = first_learn clause hints rest (clauses_of log) s.1
+first_of (Drop number) log rest s = first_drop number rest (clauses_of log) s
 
 -- entries come back
-pub entries_back : (log : List Entry) → AreSmall log → entries_of (length log) (log_bytes log) ≡ log
+pub entries_back : (log : List Entry) → AreSmall log → entries_of (length log) (clauses_of log) (log_bytes log) ≡ log
 entries_back [] s = refl
 entries_back (entry ∷ log) s =
-    let f = first_of entry (log_bytes log) s.0 in
-    (λ i. f.is i ∷ entries_of (length log) (f.after i)) ∙ ap (λ (l : List Entry). entry ∷ l) (entries_back log s.1)
+    let f = first_of entry log (log_bytes log) s.0 in
+    (λ i. f.is i ∷ entries_of (length log) (f.others_are i) (f.after i)) ∙ ap (λ (l : List Entry). entry ∷ l) (entries_back log s.1)
 
-pub shown : (log : List Entry) (count learned : ℕ) (bytes : List ℕ) → IsHeld log count learned bytes → entries_of count bytes ≡ log
-shown log count learned bytes h = (λ i. entries_of (h.count_is i) (h.bytes_are i)) ∙ entries_back log h.small
+pub shown : (log : List Entry) (count : ℕ) (learned : List (List ℕ)) (bytes : List ℕ) → IsHeld log count learned bytes → entries_of count learned bytes ≡ log
+shown log count learned bytes h = (λ i. entries_of (h.count_is i) (h.learned_are i) (h.bytes_are i)) ∙ entries_back log h.small
 
 -- with further entries at the end
 bytes-append : (log more : List Entry) → log_bytes (log ++ more) ≡ log_bytes log ++ log_bytes more
@@ -94,23 +76,22 @@ small-append : (log more : List Entry) → AreSmall log → AreSmall more → Ar
 small-append [] more s t = t
 small-append (entry ∷ log) more s t = (s.0, small-append log more s.1 t)
 
-held-append : (log more : List Entry) (count learned : ℕ) (bytes : List ℕ) → IsHeld log count learned bytes → AreSmall more → IsHeld (log ++ more) (count + length more) (learned + length (clauses_of more)) (bytes ++ log_bytes more)
+held-append : (log more : List Entry) (count : ℕ) (learned : List (List ℕ)) (bytes : List ℕ) → IsHeld log count learned bytes → AreSmall more
+    → IsHeld (log ++ more) (count + length more) (learned ++ clauses_of more) (bytes ++ log_bytes more)
 held-append log more count learned bytes h s = record {
   count_is = ap (λ (n : ℕ). n + length more) h.count_is ∙ sym (length-append log more);
-  learned_is = omega (arith, h.learned_is, ap (λ (cs : List (List ℕ)). length cs) (clauses-append log more), length-append (clauses_of log) (clauses_of more));
+  learned_are = ap (λ (cs : List (List ℕ)). cs ++ clauses_of more) h.learned_are ∙ sym (clauses-append log more);
   bytes_are = ap (λ (bs : List ℕ). bs ++ log_bytes more) h.bytes_are ∙ sym (bytes-append log more);
   small = small-append log more h.small s;
 }
 
 -- the entries that are shown are those that are held
-pub held_shown : (log : List Entry) (count learned : ℕ) (bytes : List ℕ) → IsHeld log count learned bytes → IsHeld (entries_of count bytes) count learned bytes
+pub held_shown : (log : List Entry) (count : ℕ) (learned : List (List ℕ)) (bytes : List ℕ) → IsHeld log count learned bytes → IsHeld (entries_of count learned bytes) count learned bytes
 held_shown log count learned bytes h = subst (λ (es : List Entry). IsHeld es count learned bytes) (sym (shown log count learned bytes h)) h
 
 -- there are no more entries than bytes
 entry_long : (entry : Entry) → 1 ≤ length (entry_bytes entry)
-entry_long (Learn clause hints) =
-    let one = some_bytes (2 * length hints) in
-    omega (arith, one, length-append (bytes_of (2 * length hints)) (steps_of 0 hints), length-append (bytes_of (2 * length hints) ++ steps_of 0 hints) (bytes_of (length clause) ++ steps_of 0 clause))
+entry_long (Learn clause hints) = let one = some_bytes (2 * length hints) in omega (arith, one, length-append (bytes_of (2 * length hints)) (steps_of 0 hints))
 entry_long (Drop number) = some_bytes (2 * number + 1)
 
 bytes_long : (log : List Entry) → length log ≤ length (log_bytes log)
@@ -120,25 +101,18 @@ bytes_long (entry ∷ log) =
     let one = entry_long entry in
     omega (arith, r, one, length-append (entry_bytes entry) (log_bytes log))
 
-clauses_few : (log : List Entry) → length (clauses_of log) ≤ length log
-clauses_few [] = omega arith
-clauses_few (Learn clause hints ∷ log) = let r = clauses_few log in omega (arith, r)
-clauses_few (Drop number ∷ log) = let r = clauses_few log in omega (arith, r)
-
-pub count_within : (log : List Entry) (count learned : ℕ) (bytes : List ℕ) → IsHeld log count learned bytes → count ≤ length bytes
+pub count_within : (log : List Entry) (count : ℕ) (learned : List (List ℕ)) (bytes : List ℕ) → IsHeld log count learned bytes → count ≤ length bytes
 count_within log count learned bytes h = omega (arith, bytes_long log, h.count_is, ap length h.bytes_are)
 
-pub learned_within : (log : List Entry) (count learned : ℕ) (bytes : List ℕ) → IsHeld log count learned bytes → learned ≤ length bytes
-learned_within log count learned bytes h = let w = count_within log count learned bytes h in omega (arith, w, clauses_few log, h.learned_is, h.count_is)
-
 -- one more clause is learned
-pub held_learn : (log : List Entry) (count learned : ℕ) (bytes steps clause hints : List ℕ) → IsHeld log count learned bytes → steps ≡ bytes ++ entry_bytes (Learn clause hints) → IsSmall (Learn clause hints) → IsHeld (log ++ Learn clause hints ∷ []) (count + 1) (learned + 1) steps
-held_learn log count learned bytes steps clause hints h b s =
+pub held_learn : (log : List Entry) (count : ℕ) (learned clauses : List (List ℕ)) (bytes steps clause hints : List ℕ) → IsHeld log count learned bytes → clauses ≡ learned ++ clause ∷ [] → steps ≡ bytes ++ hint_bytes hints
+    → IsSmall (Learn clause hints) → IsHeld (log ++ Learn clause hints ∷ []) (count + 1) clauses steps
+held_learn log count learned clauses bytes steps clause hints h l b s =
     let r = held-append log (Learn clause hints ∷ []) count learned bytes h (s, tt) in
     record {
       count_is = r.count_is;
-      learned_is = r.learned_is;
-      bytes_are = b ∙ ap (λ (bs : List ℕ). bytes ++ bs) (sym (append-nil (entry_bytes (Learn clause hints)))) ∙ r.bytes_are;
+      learned_are = l ∙ r.learned_are;
+      bytes_are = b ∙ ap (λ (bs : List ℕ). bytes ++ bs) (sym (append-nil (hint_bytes hints))) ∙ r.bytes_are;
       small = r.small;
     }
 
@@ -151,12 +125,13 @@ length-drops [] = refl
 length-drops (n ∷ numbers) = ap (λ (k : ℕ). suc k) (length-drops numbers)
 
 -- clauses are dropped
-pub held_drops : (log : List Entry) (count learned : ℕ) (bytes steps numbers : List ℕ) → IsHeld log count learned bytes → steps ≡ bytes ++ log_bytes (map (λ n. Drop n) numbers) → AreSmall (map (λ n. Drop n) numbers) → IsHeld (log ++ map (λ n. Drop n) numbers) (count + length numbers) learned steps
+pub held_drops : (log : List Entry) (count : ℕ) (learned : List (List ℕ)) (bytes steps numbers : List ℕ) → IsHeld log count learned bytes → steps ≡ bytes ++ log_bytes (map (λ n. Drop n) numbers)
+    → AreSmall (map (λ n. Drop n) numbers) → IsHeld (log ++ map (λ n. Drop n) numbers) (count + length numbers) learned steps
 held_drops log count learned bytes steps numbers h b s =
     let r = held-append log (map (λ n. Drop n) numbers) count learned bytes h s in
     record {
       count_is = ap (λ (n : ℕ). count + n) (sym (length-drops numbers)) ∙ r.count_is;
-      learned_is = omega (arith, r.learned_is, ap (λ (cs : List (List ℕ)). length cs) (drops_none numbers));
+      learned_are = sym (append-nil learned) ∙ ap (λ (cs : List (List ℕ)). learned ++ cs) (sym (drops_none numbers)) ∙ r.learned_are;
       bytes_are = b ∙ r.bytes_are;
       small = r.small;
     }
@@ -176,5 +151,7 @@ both_by (Ok u) last now old a b n l = l ∙ ap (λ (xs : List ℕ). xs ++ b) n �
 both_by (Err e) last now old a b n l = tt
 
 -- where entries are left to read their count is not 0
-pub not_all_read : (k : ℕ) (bytes : List ℕ) (log : List Entry) → entries_of k bytes ≡ log → 0 < length log → k ≡ 0 → ⊥
-not_all_read k bytes log e some none = let long : length log ≡ 0 = sym (ap length e) ∙ ap (λ (n : ℕ). length (entries_of n bytes)) none in omega (arith, long, some)
+pub not_all_read : (k : ℕ) (clauses : List (List ℕ)) (bytes : List ℕ) (log : List Entry) → entries_of k clauses bytes ≡ log → 0 < length log → k ≡ 0 → ⊥
+not_all_read k clauses bytes log e some none =
+    let long : length log ≡ 0 = sym (ap length e) ∙ ap (λ (n : ℕ). length (entries_of n clauses bytes)) none in
+    omega (arith, long, some)

@@ -1,4 +1,5 @@
 pub mod Held
 pub mod Step
 pub mod Number
+pub mod Placed
 pub mod Numbers

@@ -7,14 +7,16 @@ use crate::steps::{add_drops, add_learned};
 use clause_base::literal::Lit;
 use clause_base::log::Entry;
 use clause_base::memory::Memory;
-use containers::let_go;
+use containers::{SharedListOf, let_go};
 use std::alloc::Global;
 use std::marker::Model;
 
-/// A list of entries: clauses that are learned from a formula and the entries before, and clauses that are dropped.
+/// A list of entries: clauses that are learned from a formula and the entries before, and clauses that are dropped. The literals of a
+/// learned clause may be in memory that others share; its hints, and what is dropped, stand as bytes.
 pub struct Log {
+    alloc: Global,
     count: usize,
-    learned: usize,
+    learned: Vec<SharedListOf<Lit>>,
     steps: Vec<u8>,
 }
 
@@ -25,15 +27,15 @@ impl Model for Log {
 
     ghost Value = { List Entry };
 
-    ghost view = { λ l. entries_of l.count l.steps.items };
+    ghost view = { λ l. entries_of l.count l.learned.items l.steps.items };
 
-    ghost invariant = { λ l. IsHeld (entries_of l.count l.steps.items) l.count l.learned l.steps.items };
+    ghost invariant = { λ l. IsHeld (entries_of l.count l.learned.items l.steps.items) l.count l.learned.items l.steps.items };
 }
 
 /// Letting one go is one call, in which its parts go: whoever holds one proves one step.
 impl Drop for Log {
     fn drop(self) {
-        let_go!(self: Log { count, learned, steps });
+        let_go!(self: Log { alloc, count, learned, steps });
     }
 }
 
@@ -43,8 +45,9 @@ impl Log {
         ensures { result ≡ [] }
     {
         Log {
+            alloc,
             count: 0,
-            learned: 0,
+            learned: Vec::new(alloc),
             steps: Vec::new(alloc),
         }
     }
@@ -60,14 +63,26 @@ impl Log {
     pub fn entries(&self) -> Reader<'_>
         ensures { result ≡ self.now }
     {
-        Reader::of(self.count, &self.steps)
+        Reader::of(self.count, &self.learned, &self.steps)
     }
 
     /// How many clauses are learned.
     pub fn learned_count(&self) -> usize
         ensures { result ≡ length (clauses_of self.now) }
     {
-        self.learned
+        self.learned.len()
+    }
+
+    /// Adds an entry that learns a clause by these hints; its literals stay in the memory that they are in. After want of memory the
+    /// log is unchanged.
+    pub fn push_shared(&mut self, clause: &SharedListOf<Lit>, hints: &[u32]) -> Result<(), Memory>
+        requires { IsClause clause.now }
+        ensures ok { OnOk result (self.new ≡ self.old ++ Entry.Learn clause.now hints.now ∷ []) }
+        ensures err { OnErr result (self.new ≡ self.old) }
+    {
+        add_learned(&mut self.learned, &mut self.steps, clause, hints)?;
+        self.count += 1;
+        Ok(())
     }
 
     /// Adds an entry that learns a clause by these hints. After want of memory the log is unchanged.
@@ -76,10 +91,8 @@ impl Log {
         ensures ok { OnOk result (self.new ≡ self.old ++ Entry.Learn clause.now hints.now ∷ []) }
         ensures err { OnErr result (self.new ≡ self.old) }
     {
-        add_learned(&mut self.steps, clause, hints)?;
-        self.learned += 1;
-        self.count += 1;
-        Ok(())
+        let shared = SharedListOf::copied_from(self.alloc, clause)?;
+        self.push_shared(&shared, hints)
     }
 
     /// Adds entries that drop the clauses with these numbers, in this order. After want of memory the log is unchanged.

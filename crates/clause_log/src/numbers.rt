@@ -3,6 +3,7 @@ ghost use Rattle.clause_log.specs.Number.{bytes_of, number_of, after_number};
 ghost use Rattle.clause_log.specs.Numbers.{numbers_of, after_numbers, step_to, step_from, steps_of};
 
 use crate::number::{put_number, put_within, take_number};
+use clause_base::literal::Lit;
 use std::alloc::AllocError;
 use std::marker::Model;
 
@@ -29,21 +30,32 @@ pub fn step_from(last: u32, step: u64) -> u32
     }
 }
 
-/// Numbers that stand in bytes, from the next one on. Contracts see the list of them.
+/// Where numbers stand.
+#[derive(Clone, Copy)]
+enum Place<'a> {
+    /// In bytes, so many from the next one on, and the number before it.
+    Bytes {
+        bytes: &'a [u8],
+        left: usize,
+        last: u32,
+    },
+    /// Each as the code of a literal.
+    Lits(&'a [Lit]),
+}
+
+/// Numbers where they stand, from the next one on. Contracts see the list of them.
 #[derive(Drop)]
 pub struct Numbers<'a> {
-    bytes: &'a [u8],
-    left: usize,
-    last: u32,
+    place: Place<'a>,
 }
 
 impl<'a> Model for Numbers<'a> {
     ghost use Rattle.std.specs.Prelude.{List, ℕ};
-    ghost use Rattle.clause_log.specs.Numbers.{numbers_of};
+    ghost use Rattle.clause_log.specs.Placed.{numbers_at};
 
     ghost Value = { List ℕ };
 
-    ghost view = { λ n. numbers_of n.left n.last n.bytes.now };
+    ghost view = { λ n. numbers_at n.place };
 }
 
 impl<'a> Numbers<'a> {
@@ -52,9 +64,20 @@ impl<'a> Numbers<'a> {
         ensures { result ≡ numbers_of count 0 bytes.now }
     {
         Numbers {
-            bytes,
-            left: count,
-            last: 0,
+            place: Place::Bytes {
+                bytes,
+                left: count,
+                last: 0,
+            },
+        }
+    }
+
+    /// The codes of literals.
+    pub fn codes(lits: &'a [Lit]) -> Numbers<'a>
+        ensures { result ≡ lits.now }
+    {
+        Numbers {
+            place: Place::Lits(lits),
         }
     }
 
@@ -62,18 +85,21 @@ impl<'a> Numbers<'a> {
     pub fn copy(&self) -> Numbers<'a>
         ensures { result ≡ self.now }
     {
-        Numbers {
-            bytes: self.bytes,
-            left: self.left,
-            last: self.last,
-        }
+        Numbers { place: self.place }
     }
 
     /// How many numbers are left.
     pub fn len(&self) -> usize
         ensures { result ≡ length self.now }
     {
-        self.left
+        match self.place {
+            Place::Bytes {
+                bytes: _,
+                left,
+                last: _,
+            } => left,
+            Place::Lits(lits) => lits.len(),
+        }
     }
 
     /// Takes the next number out.
@@ -81,14 +107,25 @@ impl<'a> Numbers<'a> {
         ensures some { IfSome result (λ n. self.old ≡ n ∷ self.new) }
         ensures none { IfNone result (self.old ≡ []) }
     {
-        if self.left == 0 {
-            return None;
+        match self.place {
+            Place::Bytes { bytes, left, last } => {
+                if left == 0 {
+                    return None;
+                }
+                let next = take_step(bytes, last);
+                self.place = Place::Bytes {
+                    bytes: next.rest,
+                    left: left - 1,
+                    last: next.number,
+                };
+                Some(next.number)
+            }
+            Place::Lits(lits) => {
+                let (lit, rest) = lits.split_first()?;
+                self.place = Place::Lits(rest);
+                Some(lit.0)
+            }
         }
-        let next = take_step(self.bytes, self.last);
-        self.bytes = next.rest;
-        self.left -= 1;
-        self.last = next.number;
-        Some(self.last)
     }
 }
 

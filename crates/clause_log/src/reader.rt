@@ -1,13 +1,13 @@
 ghost use Rattle.std.specs.Prelude.{◌≡◌, ◌∷◌, [], ◌<◌, length, IfOk, OnErr, IfSome, IfNone};
 ghost use Rattle.clause_log.specs.Numbers.{numbers_of, after_numbers};
-ghost use Rattle.clause_log.specs.Held.{entries_of, AreSmall};
+ghost use Rattle.clause_log.specs.Held.{entries_of, first_clause, other_clauses, AreSmall};
 ghost use Rattle.clause_log.specs.Step.{told, told_by, IsLawful, IsLawfulBy};
 
 use crate::number::take_number;
 use crate::numbers::{Numbers, after_numbers, take_numbers};
-use crate::steps::take_literals;
 use clause_base::literal::Lit;
 use clause_base::memory::Memory;
+use containers::SharedListOf;
 use std::marker::Model;
 
 /// An entry of a log where it stands.
@@ -24,11 +24,11 @@ pub enum Step<'a> {
     },
 }
 
-/// What an entry does, where its clause and its hints stand apart from it.
+/// What an entry does, where its hints stand apart from it.
 #[derive(Clone, Copy)]
-pub enum Kind {
+pub enum Kind<'a> {
     /// The clause is learned by the hints.
-    Learn,
+    Learn { clause: &'a [Lit] },
     /// The clause with this number is dropped.
     Drop { number: u32 },
 }
@@ -37,6 +37,7 @@ pub enum Kind {
 #[derive(Drop)]
 pub struct Reader<'a> {
     left: usize,
+    clauses: &'a [SharedListOf<Lit>],
     steps: &'a [u8],
 }
 
@@ -47,30 +48,58 @@ impl<'a> Model for Reader<'a> {
 
     ghost Value = { List Entry };
 
-    ghost view = { λ r. entries_of r.left r.steps.now };
+    ghost view = { λ r. entries_of r.left r.clauses.now r.steps.now };
 
-    ghost invariant = { λ r. AreSmall (entries_of r.left r.steps.now) };
+    ghost invariant = { λ r. AreSmall (entries_of r.left r.clauses.now r.steps.now) };
+}
+
+/// The first of some clauses, and the others.
+#[derive(Clone, Copy)]
+struct First<'a> {
+    clause: &'a [Lit],
+    others: &'a [SharedListOf<Lit>],
+}
+
+/// Parts the first of some clauses from the others. Where there is none, it is the empty clause.
+fn first_of(clauses: &[SharedListOf<Lit>]) -> First<'_>
+    ensures clause { result.clause.now ≡ first_clause clauses.now }
+    ensures others { result.others.now ≡ other_clauses clauses.now }
+{
+    match clauses.split_first() {
+        Some((first, others)) => First {
+            clause: first.as_slice(),
+            others,
+        },
+        None => First {
+            clause: &[],
+            others: clauses,
+        },
+    }
 }
 
 impl<'a> Reader<'a> {
-    /// So many entries, with which the bytes begin.
-    pub(crate) fn of(left: usize, steps: &'a [u8]) -> Reader<'a>
-        requires { AreSmall (entries_of left steps.now) }
-        ensures { result ≡ entries_of left steps.now }
+    /// So many entries, which learn these clauses, and with whose bytes the bytes begin.
+    pub(crate) fn of(left: usize, clauses: &'a [SharedListOf<Lit>], steps: &'a [u8]) -> Reader<'a>
+        requires { AreSmall (entries_of left clauses.now steps.now) }
+        ensures { result ≡ entries_of left clauses.now steps.now }
     {
-        Reader { left, steps }
+        Reader {
+            left,
+            clauses,
+            steps,
+        }
     }
 
-    /// Takes the next entry out, where one is left, and tells what it does. Its numbers are decoded once: a clause that is
-    /// learned and its hints go into vectors that are written over. After want of memory no entry is taken out.
-    /// In a program this is a call of its own too: written into the check of a log, its loops would leave too few registers to
+    /// Takes the next entry out, where one is left, and tells what it does. Its hints are decoded once: they go into a vector that is
+    /// written over. After want of memory no entry is taken out.
+    /// In a program this is a call of its own too: written into the check of a log, its loop would leave too few registers to
     /// those over the hints' literals.
     #[inline(never)]
     #[tactic(auto, using(crate::proofs::HeldLaws::not_all_read))]
-    pub fn take_into(&mut self, clause: &mut Vec<Lit>, hints: &mut Vec<u32>) -> Result<Kind, Memory>
+    pub fn take_into(&mut self, hints: &mut Vec<u32>) -> Result<Kind<'a>, Memory>
         requires { 0 < length self.old }
-        ensures next { IfOk result (λ kind. self.old ≡ told_by kind clause.new.items hints.new.items ∷ self.new) }
-        ensures lawful { IfOk result (λ kind. IsLawfulBy kind clause.new.items) }
+        ensures next { IfOk result (λ kind. self.old ≡ told_by kind hints.new.items ∷ self.new) }
+        ensures lawful { IfOk result (λ kind. IsLawfulBy kind) }
         ensures err { OnErr result (self.new ≡ self.old) }
     {
         if self.left == 0 {
@@ -84,12 +113,14 @@ impl<'a> Reader<'a> {
             let number = (half % 4294967296) as u32;
             return Ok(Kind::Drop { number });
         }
-        let literals = take_numbers(head.rest, half as usize, hints)?;
-        let size = take_number(literals);
-        let rest = take_literals(size.rest, size.number as usize, clause)?;
+        let rest = take_numbers(head.rest, half as usize, hints)?;
+        let first = first_of(self.clauses);
         self.left -= 1;
+        self.clauses = first.others;
         self.steps = rest;
-        Ok(Kind::Learn)
+        Ok(Kind::Learn {
+            clause: first.clause,
+        })
     }
 
     /// Takes the next entry out.
@@ -109,10 +140,12 @@ impl<'a> Reader<'a> {
             let number = (half % 4294967296) as u32;
             return Some(Step::Drop { number });
         }
-        let hints = Numbers::of(head.rest, half as usize);
-        let size = take_number(after_numbers(head.rest, half as usize));
-        self.steps = after_numbers(size.rest, size.number as usize);
-        let clause = Numbers::of(size.rest, size.number as usize);
-        Some(Step::Learn { clause, hints })
+        let first = first_of(self.clauses);
+        self.clauses = first.others;
+        self.steps = after_numbers(head.rest, half as usize);
+        Some(Step::Learn {
+            clause: Numbers::codes(first.clause),
+            hints: Numbers::of(head.rest, half as usize),
+        })
     }
 }

@@ -1,65 +1,23 @@
-//! The bytes of entries.
-ghost use Rattle.std.specs.Prelude.{◌≡◌, ◌++◌, ◌<◌, ◌*◌, ◌^◌, length, map, take, All, IfOk, OnOk, OnErr};
-ghost use Rattle.clause_log.specs.Numbers.{steps_of, numbers_of, after_numbers};
-ghost use Rattle.clause_base.specs.Clause.{IsClause};
-ghost use Rattle.clause_base.specs.declared.log.Entry.TheVariants.{Learn, Drop};
-ghost use Rattle.clause_log.specs.Held.{entry_bytes, log_bytes, IsSmall, AreSmall};
+//! The bytes of entries, and the clauses that they learn.
+ghost use Rattle.std.specs.Prelude.{◌≡◌, ◌++◌, ◌∷◌, [], ◌*◌, length, map, take, OnOk, OnErr};
+ghost use Rattle.clause_base.specs.declared.log.Entry.TheVariants.{Drop};
+ghost use Rattle.clause_log.specs.Held.{hint_bytes, log_bytes, AreFew, AreSmall};
 
 use crate::number::put_number;
-use crate::numbers::{MOST_STEP, put_numbers, put_step_within, take_step};
+use crate::numbers::put_numbers;
 use clause_base::literal::Lit;
 use clause_base::memory::Memory;
+use containers::SharedListOf;
 use std::alloc::AllocError;
 
-/// Adds literals. After want of memory the bytes that stood before still stand first.
-fn put_literals(steps: &mut Vec<u8>, clause: &[Lit]) -> Result<(), AllocError>
-    ensures ok { OnOk result (steps.new.items ≡ steps.old.items ++ steps_of 0 clause.now) }
-    ensures small { OnOk result (All (λ n. n < 2 ^ 32) clause.now) }
-    ensures before { take (length steps.old.items) steps.new.items ≡ steps.old.items }
-{
-    steps.reserve(MOST_STEP * clause.len())?;
-    let mut last = 0;
-    for lit in clause {
-        put_step_within(steps, last, lit.0);
-        last = lit.0;
-    }
-    Ok(())
-}
-
-/// Reads so many literals, with which the bytes begin, into a vector that is written over, and gives the bytes after them.
-pub fn take_literals<'a>(
-    bytes: &'a [u8],
-    count: usize,
-    lits: &mut Vec<Lit>,
-) -> Result<&'a [u8], AllocError>
-    ensures literals { OnOk result (lits.new.items ≡ numbers_of count 0 bytes.now) }
-    ensures rest { IfOk result (λ rest. rest.now ≡ after_numbers count bytes.now) }
-{
-    lits.clear();
-    lits.reserve(count)?;
-    let mut last = 0;
-    let mut rest = bytes;
-    for _ in 0..count {
-        let next = take_step(rest, last);
-        last = next.number;
-        rest = next.rest;
-        lits.push_reserved(Lit(last));
-    }
-    Ok(rest)
-}
-
-/// Adds an entry that learns a clause: how many hints there are, doubled, and the hints, then how many literals, and the literals. After
-/// want of memory the bytes that stood before still stand first.
-fn put_learned(steps: &mut Vec<u8>, clause: &[Lit], hints: &[u32]) -> Result<(), AllocError>
-    requires { IsClause clause.now }
-    ensures ok { OnOk result (steps.new.items ≡ steps.old.items ++ entry_bytes (Learn clause.now hints.now)) }
-    ensures small { OnOk result (IsSmall (Learn clause.now hints.now)) }
+/// Adds hints: how many there are, doubled, and the hints. After want of memory the bytes that stood before still stand first.
+fn put_hints(steps: &mut Vec<u8>, hints: &[u32]) -> Result<(), AllocError>
+    ensures ok { OnOk result (steps.new.items ≡ steps.old.items ++ hint_bytes hints.now) }
+    ensures few { OnOk result (AreFew hints.now) }
     ensures before { take (length steps.old.items) steps.new.items ≡ steps.old.items }
 {
     put_number(steps, 2 * hints.len() as u64)?;
-    put_numbers(steps, hints)?;
-    put_number(steps, clause.len() as u64)?;
-    put_literals(steps, clause)
+    put_numbers(steps, hints)
 }
 
 /// Adds the numbers that entries drop. After want of memory the bytes that stood before still stand first.
@@ -74,21 +32,41 @@ fn put_drops(steps: &mut Vec<u8>, numbers: &[u32]) -> Result<(), AllocError>
     Ok(())
 }
 
-/// Adds an entry that learns a clause. After want of memory the bytes are unchanged.
-pub fn add_learned(steps: &mut Vec<u8>, clause: &[Lit], hints: &[u32]) -> Result<(), Memory>
-    requires { IsClause clause.now }
-    ensures ok { OnOk result (steps.new.items ≡ steps.old.items ++ entry_bytes (Learn clause.now hints.now)) }
-    ensures small { OnOk result (IsSmall (Learn clause.now hints.now)) }
+/// Adds the hints of an entry that learns a clause. After want of memory the bytes are unchanged.
+fn add_hints(steps: &mut Vec<u8>, hints: &[u32]) -> Result<(), Memory>
+    ensures ok { OnOk result (steps.new.items ≡ steps.old.items ++ hint_bytes hints.now) }
+    ensures few { OnOk result (AreFew hints.now) }
     ensures err { OnErr result (steps.new.items ≡ steps.old.items) }
 {
     let start = steps.len();
-    match put_learned(steps, clause, hints) {
+    match put_hints(steps, hints) {
         Ok(()) => Ok(()),
         Err(error) => {
             steps.truncate(start);
             Err(Memory::from(error))
         }
     }
+}
+
+/// Adds an entry that learns a clause, whose literals stay in the memory that they are in: the clause to those that are learned, and
+/// the bytes of the hints. After want of memory both are unchanged.
+pub fn add_learned(
+    learned: &mut Vec<SharedListOf<Lit>>,
+    steps: &mut Vec<u8>,
+    clause: &SharedListOf<Lit>,
+    hints: &[u32],
+) -> Result<(), Memory>
+    ensures clause { OnOk result (learned.new.items ≡ learned.old.items ++ clause.now ∷ []) }
+    ensures hints { OnOk result (steps.new.items ≡ steps.old.items ++ hint_bytes hints.now) }
+    ensures few { OnOk result (AreFew hints.now) }
+    ensures same { OnErr result (learned.new.items ≡ learned.old.items) }
+    ensures err { OnErr result (steps.new.items ≡ steps.old.items) }
+{
+    let clause = clause.copy()?;
+    learned.reserve(1)?;
+    add_hints(steps, hints)?;
+    learned.push_reserved(clause);
+    Ok(())
 }
 
 /// Adds the numbers that entries drop. After want of memory the bytes are unchanged.

@@ -1,20 +1,20 @@
 ghost use Rattle.std.specs.Prelude.{◌≡◌, ◌<◌, ◌≤◌, ◌++◌, ◌∷◌, [], length, All, IfOk, OnOk, OnErr, slice_index_or};
 ghost use Rattle.clause_base.specs.Clause.{IsClause};
 
-use clause_base::clause_list::ClauseList;
 use clause_base::formula::Formula;
 use clause_base::literal::Lit;
 use clause_base::memory::Memory;
 use clause_base::view::View;
-use containers::let_go;
+use containers::{SharedListOf, let_go};
 use std::alloc::Global;
 use std::marker::Model;
 
-/// Clauses by number, counted from 0: first those of a formula, which stand in it, then those that were added.
+/// Clauses by number, counted from 0: first those of a formula, which stand in it, then those that were added, each in memory that
+/// others may share.
 pub struct Store {
     formula: Formula,
     given: u32,
-    added: ClauseList,
+    added: Vec<SharedListOf<Lit>>,
 }
 
 impl Model for Store {
@@ -23,9 +23,9 @@ impl Model for Store {
 
     ghost Value = { List (List ℕ) };
 
-    ghost view = { λ s. s.formula.clauses ++ s.added };
+    ghost view = { λ s. s.formula.clauses ++ s.added.items };
 
-    ghost invariant = { λ s. IsStored s.formula.clauses s.given s.added };
+    ghost invariant = { λ s. IsStored s.formula.clauses s.given s.added.items };
 }
 
 /// Letting one go is one call, in which its parts go: whoever holds one proves one step.
@@ -45,7 +45,7 @@ impl Store {
         Ok(Store {
             formula,
             given,
-            added: ClauseList::new(alloc),
+            added: Vec::new(alloc),
         })
     }
 
@@ -56,7 +56,7 @@ impl Store {
     {
         // For the proof: each clause of the formula is lawful.
         let _lawful = self.formula.count();
-        self.given + self.added.count() as u32
+        self.given + self.added.len() as u32
     }
 
     /// The literals of a clause.
@@ -68,16 +68,20 @@ impl Store {
         if number < self.given {
             return self.formula.clause(number);
         }
-        View::of(self.added.clause((number - self.given) as usize))
+        let added = &self.added[(number - self.given) as usize];
+        View::of(added.as_slice())
     }
 
-    /// Adds a clause. After want of memory the store is unchanged.
-    pub fn push(&mut self, clause: &[Lit]) -> Result<(), Memory>
+    /// Adds a clause, whose literals stay in the memory that they are in. After want of memory the store is unchanged.
+    pub fn push(&mut self, clause: &SharedListOf<Lit>) -> Result<(), Memory>
         requires lawful { IsClause clause.now }
         requires room { length self.old < 4294967295 }
         ensures ok { OnOk result (self.new ≡ self.old ++ clause.now ∷ []) }
         ensures err { OnErr result (self.new ≡ self.old) }
     {
-        self.added.add_sorted(clause)
+        let clause = clause.copy()?;
+        self.added.reserve(1)?;
+        self.added.push_reserved(clause);
+        Ok(())
     }
 }

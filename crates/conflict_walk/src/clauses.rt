@@ -13,7 +13,7 @@ use clause_base::formula::Formula;
 use clause_base::literal::Lit;
 use clause_base::memory::Memory;
 use clause_log::log::Log;
-use containers::let_go;
+use containers::{SharedListOf, let_go};
 use std::alloc::{AllocError, Global};
 use std::marker::Model;
 
@@ -127,16 +127,16 @@ impl Clauses {
     }
 
     /// Learns a clause from those that the hints name. After want of memory nothing has changed.
-    pub fn learn(&mut self, clause: &[Lit], hints: &[u32]) -> Result<(), Memory>
+    pub fn learn(&mut self, clause: &SharedListOf<Lit>, hints: &[u32]) -> Result<(), Memory>
         requires lawful { IsClause clause.now }
         requires room { length (clauses_of self.old.log) < 1073741824 }
         ensures ok { OnOk result (self.new ≡ record self.old { log = self.old.log ++ Learn clause.now hints.now ∷ []; kept = self.old.kept ++ true ∷ [] }) }
         ensures err { OnErr result (self.new ≡ self.old) }
     {
         let number = self.count();
-        let is_long = clause.len() > SHORT;
+        let is_long = clause.as_slice().len() > SHORT;
         self.longs.reserve(1)?;
-        self.log.push_learned(clause, hints)?;
+        self.log.push_shared(clause, hints)?;
         add_long(&mut self.longs, number, is_long)?;
         Ok(())
     }

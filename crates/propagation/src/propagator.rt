@@ -37,7 +37,7 @@ use clause_base::memory::Memory;
 use clause_store::chains::Chains;
 use clause_store::index::PairIndex;
 use clause_store::store::Store;
-use containers::let_go;
+use containers::{SharedListOf, let_go};
 use std::alloc::Global;
 use std::marker::Model;
 
@@ -160,9 +160,9 @@ impl Propagator {
         self.trail.pass_given();
     }
 
-    /// Adds the clause of literals that are in a clause's form already, with the next number, kept. After want of memory, or
-    /// where there would be more than 2,147,483,647 clauses, nothing has changed.
-    pub fn add_sorted(&mut self, clause: &[Lit]) -> Result<(), Memory>
+    /// Adds the clause of literals that are in a clause's form already, with the next number, kept; they stay in the memory that they
+    /// are in. After want of memory, or where there would be more than 2,147,483,647 clauses, nothing has changed.
+    pub fn add_sorted(&mut self, clause: &SharedListOf<Lit>) -> Result<(), Memory>
         requires lawful { IsClause clause.now }
         requires below { HasVariablesBelow self.old.variables clause.now }
         ensures ok { OnOk result (self.new ≡ record self.old { clauses = self.old.clauses ++ clause.now ∷ []; kept = self.old.kept ++ true ∷ [] }) }
@@ -181,7 +181,7 @@ impl Propagator {
             &mut self.tables.slots,
             &mut self.lists,
             &assignment,
-            clause,
+            clause.as_slice(),
             number,
         )?;
         raise(

@@ -5,7 +5,6 @@ ghost use Rattle.rup_check.specs.Certificate.{Certifies};
 ghost use Rattle.rup_check.specs.declared.check.CheckError.TheVariants as error;
 
 use crate::checker::Checker;
-use crate::room::Room;
 use crate::steps::{learns_empty, take_step};
 use clause_base::formula::Formula;
 use clause_base::memory::Memory;
@@ -77,17 +76,17 @@ fn go_through(alloc: Global, formula: &Formula, log: &Log) -> Result<(), CheckEr
     ensures not_empty { result ≡ Err CheckError.NotEmpty → IsDerivation formula.now.variables formula.now.clauses log.now × (EndsEmpty log.now → ⊥) }
 {
     let mut checker = Checker::new(alloc, formula)?;
-    let mut room = Room::new(alloc);
+    let mut hints = Vec::new(alloc);
     let mut reader = log.entries();
     let mut ends_empty = false;
     for number in 0..log.len() {
-        let kind = reader.take_into(&mut room.lits, &mut room.hints)?;
-        if !take_step(&mut checker, kind, &room)? {
+        let kind = reader.take_into(&mut hints)?;
+        if !take_step(&mut checker, kind, &hints)? {
             return Err(CheckError::Rejected {
                 entry: number as u32,
             });
         }
-        ends_empty = learns_empty(kind, &room);
+        ends_empty = learns_empty(kind);
     }
     if ends_empty {
         Ok(())

@@ -18,5 +18,4 @@ mod entry;
 pub mod falsified;
 mod kept;
 mod left;
-mod room;
 mod steps;

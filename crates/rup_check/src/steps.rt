@@ -1,34 +1,33 @@
 //! The entries of a log, as they are read one after another, handed to a checker.
-ghost use Rattle.std.specs.Prelude.{◌≡◌, ◌∷◌, [], ◌++◌, List, true, Some, IfOk};
+ghost use Rattle.std.specs.Prelude.{◌≡◌, ◌∷◌, [], ◌++◌, ℕ, List, true, Some, IfOk};
 ghost use Rattle.clause_base.specs.Derivation.{is_derived_after, learns_empty};
 ghost use Rattle.clause_base.specs.declared.log.Entry.{Entry};
 ghost use Rattle.clause_log.specs.Step.{told_by, IsLawfulBy};
 ghost use Rattle.rup_check.specs.Taken.{HasTaken};
 
 use crate::checker::Checker;
-use crate::room::Room;
 use clause_base::memory::Memory;
 use clause_log::reader::Kind;
 
 /// Whether an entry learns the empty clause.
-pub fn learns_empty(kind: Kind, room: &Room) -> bool
-    ensures { result ≡ learns_empty (told_by kind room.now.lits.items room.now.hints.items) }
+pub fn learns_empty(kind: Kind<'_>) -> bool
+    ensures { (hints : List ℕ) → result ≡ learns_empty (told_by kind.entry hints) }
 {
     match kind {
-        Kind::Learn => room.lits.len() == 0,
+        Kind::Learn { clause } => clause.len() == 0,
         Kind::Drop { number: _ } => false,
     }
 }
 
 /// Takes an entry as the next one, exactly where it is derived, and says whether it is.
-pub fn take_step(checker: &mut Checker<'_>, kind: Kind, room: &Room) -> Result<bool, Memory>
-    requires { IsLawfulBy kind room.now.lits.items }
+pub fn take_step(checker: &mut Checker<'_>, kind: Kind<'_>, hints: &[u32]) -> Result<bool, Memory>
+    requires { IsLawfulBy kind }
     ensures formula { checker.new.formula ≡ checker.old.formula }
-    ensures answer { (log : List Entry) → HasTaken checker.old log → IfOk result (λ taken. taken ≡ is_derived_after checker.old.formula.variables checker.old.formula.clauses log (Some (told_by kind room.now.lits.items room.now.hints.items))) }
-    ensures taken { (log : List Entry) → HasTaken checker.old log → result ≡ Ok true → HasTaken checker.new (log ++ told_by kind room.now.lits.items room.now.hints.items ∷ []) }
+    ensures answer { (log : List Entry) → HasTaken checker.old log → IfOk result (λ taken. taken ≡ is_derived_after checker.old.formula.variables checker.old.formula.clauses log (Some (told_by kind.entry hints.now))) }
+    ensures taken { (log : List Entry) → HasTaken checker.old log → result ≡ Ok true → HasTaken checker.new (log ++ told_by kind.entry hints.now ∷ []) }
 {
     match kind {
-        Kind::Learn => checker.learn(&room.lits, &room.hints),
+        Kind::Learn { clause } => checker.learn(clause, hints),
         Kind::Drop { number } => Ok(checker.forget(number)),
     }
 }

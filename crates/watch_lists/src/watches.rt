@@ -12,7 +12,7 @@ use clause_base::clause::Clause;
 use clause_base::formula::Formula;
 use clause_base::literal::Lit;
 use clause_base::memory::Memory;
-use containers::let_go;
+use containers::{SharedListOf, let_go};
 use propagation::known::Known;
 use propagation::propagator::Propagator;
 use std::alloc::Global;
@@ -21,6 +21,7 @@ use std::marker::Model;
 /// Clauses by number, which of them are kept, the literals that are true, oldest first, and what the first clause asks for that is
 /// kept and pending.
 pub struct Watches {
+    alloc: Global,
     propagator: Propagator,
     first: Option<Event>,
     /// For each length of the trail below the whole one which clauses are pending there, of those that there were when it had that
@@ -48,7 +49,7 @@ impl Model for Watches {
 impl Drop for Watches {
     fn drop(self) {
         let_go!(self: Watches {
-            propagator, first, known
+            alloc, propagator, first, known
         });
     }
 }
@@ -82,6 +83,7 @@ impl Watches {
         let first = propagator.next();
         let known = none_known(alloc, formula.variables())?;
         Ok(Watches {
+            alloc,
             propagator,
             first,
             known,
@@ -108,7 +110,8 @@ impl Watches {
         ensures ok { OnOk result (self.new ≡ record self.old { clauses = self.old.clauses ++ clause.now ∷ []; kept = self.old.kept ++ true ∷ [] }) }
         ensures err { OnErr result (self.new ≡ self.old) }
     {
-        self.propagator.add_sorted(clause)?;
+        let shared = SharedListOf::copied_from(self.alloc, clause)?;
+        self.propagator.add_sorted(&shared)?;
         self.first = self.propagator.next();
         Ok(())
     }

@@ -1,4 +1,4 @@
-use Rattle.std.proofs.Common.{◌≡◌, ◌==◌, ℕ, [], length, false, ap, sym, ◌∙◌, subst}
+use Rattle.std.proofs.Common.{◌≡◌, ◌==◌, ℕ, List, [], length, refl, false, ap, sym, ◌∙◌, subst}
 use Rattle.clause_base.specs.Clause.{HasVariablesBelow}
 use Rattle.cdcl_rules.specs.Run.{after_conflict, with_learned}
 use Rattle.cdcl_rules.specs.Reduce.{candidates, first_half}
@@ -6,7 +6,7 @@ use Rattle.cdcl_laws.specs.Sound.{IsSound}
 use Rattle.cdcl_laws.proofs.Fuel.{all_below}
 use Rattle.conflict_walk.specs.Clauses.{ClausesView, all_clauses}
 use Rattle.cdcl_rules.specs.Learn.{Learned, backtracked}
-use Rattle.cdcl_core.specs.Search.{SearchView, GoesOn}
+use Rattle.cdcl_core.specs.Search.{SearchView, GoesOn, level_after}
 use Rattle.propagation.specs.Pending.{PropagatorView}
 use Rattle.cdcl_core.proofs.Watching.{watched_going, watched_learned, watched_now, last_below}
 use Rattle.cdcl_core.proofs.Entered.{entered, gone_back, dropped_none, dropped_half, dropped_clauses}
@@ -23,15 +23,14 @@ add_sorted-requires-clause-below c =
     let all = all_below c.args.self.now.formula (after_conflict s (record { clause = k; hints = c.args.new.hints }) []) c.requires.undropped in
     let below = subst (λ (v : SearchView). HasVariablesBelow v.state.variables k) (sym c.self.view_is) (last_below s.variables s.clauses k all) in
     let over = ap (λ (v : PropagatorView). v.variables) c.backtrack.ensures ∙ c.self.invariant.over in
-    let here = subst (λ (n : ℕ). HasVariablesBelow n k) (sym over) below in
-    subst (HasVariablesBelow c.backtrack.new.self.variables) (sym c.as_slice-clause.ensures) here
+    subst (λ (n : ℕ). HasVariablesBelow n k) (sym over) below
 
 pub reduce-requires : goal.reduce-requires
 reduce-requires c =
     let t = c.self.inside in
     let trail = backtracked c.level_after-level.result t.propagator.entries in
     let m = watched_going c.self.invariant c.self.view_is c.requires.sane c.requires.going in
-    watched_now c.learn.new.self c.add_sorted.new.self trail (watched_learned t.clauses c.learn.new.self t.propagator.entries trail t.propagator c.backtrack.new.self c.add_sorted.new.self c.as_slice-clause.result.now c.as_slice.result.now m c.in_ok-learn.ensures.ok c.backtrack.ensures c.in_ok-add_sorted.ensures.ok)
+    watched_now c.learn.new.self c.add_sorted.new.self trail (watched_learned t.clauses c.learn.new.self t.propagator.entries trail t.propagator c.backtrack.new.self c.add_sorted.new.self c.args.new.lits c.as_slice.result.now m c.in_ok-learn.ensures.ok c.backtrack.ensures c.in_ok-add_sorted.ensures.ok)
 
 pub returns-in_err-learn-clause-log : goal.returns-in_err-learn-clause-log
 returns-in_err-learn-clause-log c =
@@ -56,14 +55,15 @@ pub invariant_of-self-2 : goal.invariant_of-self-2
 invariant_of-self-2 c =
     let t = c.self.inside in
     let v = c.args.self.now in
-    let k = c.as_slice-clause.result.now in
+    let k = c.args.new.lits in
     let h = c.as_slice.result.now in
     let trail = backtracked c.level_after-level.result t.propagator.entries in
-    let n : (length k == 0) ≡ false = sym c.is_empty-is_empty.ensures ∙ c.if-is_empty.false in
-    let back = gone_back t.clauses t.propagator.entries t.standing t.spoilt k c.level_after-level.result v c.self.view_is n c.level_after-level.ensures in
+    let n : (length k == 0) ≡ false = ap (λ (ls : List ℕ). length ls == 0) (sym c.as_slice-lits.ensures) ∙ sym c.is_empty-is_empty.ensures ∙ c.if-is_empty.false in
+    let level = c.level_after-level.ensures ∙ ap (level_after v.state) c.as_slice-lits.ensures in
+    let back = gone_back t.clauses t.propagator.entries t.standing t.spoilt k c.level_after-level.result v c.self.view_is n level in
     let m = watched_going c.self.invariant c.self.view_is c.requires.sane c.requires.going in
     let watch = watched_learned t.clauses c.learn.new.self t.propagator.entries trail t.propagator c.backtrack.new.self c.add_sorted.new.self k h m c.in_ok-learn.ensures.ok c.backtrack.ensures c.in_ok-add_sorted.ensures.ok in
-    let same = learned_same c.args.new.lits k c.args.new.hints h (sym c.as_slice-clause.ensures) (sym c.as_slice.ensures) in
+    let same = learned_same k k c.args.new.hints h refl (sym c.as_slice.ensures) in
     let sound = subst (λ (d : Learned). IsSound v.formula (with_learned v.state d)) same c.requires.sound in
     let ready = c.self.invariant.ready (ap (λ (w : SearchView). w.spoilt) c.self.view_is ∙ c.requires.sane) in
     let at = ap (λ (w : PropagatorView). w.entries) watch in
@@ -85,14 +85,15 @@ pub returns-clause-ok : goal.returns-clause-ok
 returns-clause-ok c =
     let t = c.self.inside in
     let v = c.args.self.now in
-    let k = c.as_slice-clause.result.now in
+    let k = c.args.new.lits in
     let h = c.as_slice.result.now in
     let trail = backtracked c.level_after-level.result t.propagator.entries in
-    let n : (length k == 0) ≡ false = sym c.is_empty-is_empty.ensures ∙ c.if-is_empty.false in
-    let back = gone_back t.clauses t.propagator.entries t.standing t.spoilt k c.level_after-level.result v c.self.view_is n c.level_after-level.ensures in
+    let n : (length k == 0) ≡ false = ap (λ (ls : List ℕ). length ls == 0) (sym c.as_slice-lits.ensures) ∙ sym c.is_empty-is_empty.ensures ∙ c.if-is_empty.false in
+    let level = c.level_after-level.ensures ∙ ap (level_after v.state) c.as_slice-lits.ensures in
+    let back = gone_back t.clauses t.propagator.entries t.standing t.spoilt k c.level_after-level.result v c.self.view_is n level in
     let m = watched_going c.self.invariant c.self.view_is c.requires.sane c.requires.going in
     let watch = watched_learned t.clauses c.learn.new.self t.propagator.entries trail t.propagator c.backtrack.new.self c.add_sorted.new.self k h m c.in_ok-learn.ensures.ok c.backtrack.ensures c.in_ok-add_sorted.ensures.ok in
-    let same = learned_same c.args.new.lits k c.args.new.hints h (sym c.as_slice-clause.ensures) (sym c.as_slice.ensures) in
+    let same = learned_same k k c.args.new.hints h refl (sym c.as_slice.ensures) in
     let sound = subst (λ (d : Learned). IsSound v.formula (with_learned v.state d)) same c.requires.sound in
     let ready = c.self.invariant.ready (ap (λ (w : SearchView). w.spoilt) c.self.view_is ∙ c.requires.sane) in
     let at = ap (λ (w : PropagatorView). w.entries) watch in

@@ -6,7 +6,7 @@ use Rattle.clause_log.proofs.HeldLaws.{held_drops, held_shown, shown, count_with
 use Rattle.clause_log.proofs.log.Log.push_drops.Goals as goal
 
 -- what is held then
-held : (c : goal.After-self-1) → IsHeld (entries_of c.self.inside.count c.self.inside.steps.items ++ map (λ n. Drop n) c.args.numbers.now) (c.self.inside.count + length c.args.numbers.now) c.self.inside.learned c.add_drops.new.steps.items
+held : (c : goal.After-self-1) → IsHeld (entries_of c.self.inside.count c.self.inside.learned.items c.self.inside.steps.items ++ map (λ n. Drop n) c.args.numbers.now) (c.self.inside.count + length c.args.numbers.now) c.self.inside.learned.items c.add_drops.new.steps.items
 held c = held_drops _ _ _ _ _ c.args.numbers.now c.self.invariant c.in_ok-add_drops.ensures.ok c.in_ok-add_drops.ensures.small
 
 pub overflow_add-self : goal.overflow_add-self

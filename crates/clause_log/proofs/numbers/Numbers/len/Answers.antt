@@ -1,6 +1,11 @@
-use Rattle.std.proofs.Common.{◌∙◌, sym, ap, length}
+use Rattle.std.proofs.Common.{length, sym, ap, ◌∙◌}
+use Rattle.clause_log.specs.Placed.{numbers_at}
+use Rattle.clause_log.specs.declared.numbers.Place.{Place}
 use Rattle.clause_log.proofs.NumbersLaws.{length-numbers_of}
 use Rattle.clause_log.proofs.numbers.Numbers.len.Goals as goal
 
-pub returns : goal.returns
-returns c = sym (length-numbers_of c.self.inside.left c.self.inside.last c.self.inside.bytes.now) ∙ ap length c.self.view_is
+pub returns-in-Bytes : goal.returns-in-Bytes
+returns-in-Bytes c =
+    sym (length-numbers_of c.in-Bytes.left c.in-Bytes.last c.in-Bytes.bytes.now)
+    ∙ ap (λ (p : Place). length (numbers_at p)) (sym c.in-Bytes.is)
+    ∙ ap length c.self.view_is
