@@ -5,7 +5,5 @@ pub mod Steps
 pub mod Whole
 pub mod Five
 pub mod Shapes
-pub mod Movables
-pub mod Origins
 pub mod Linking
 pub mod ChainWalks
