@@ -5,8 +5,6 @@ pub mod Steps
 pub mod Whole
 pub mod Five
 pub mod Shapes
-pub mod Movables
-pub mod Origins
 pub mod Linking
 pub mod ChainWalks
 pub mod Refilled

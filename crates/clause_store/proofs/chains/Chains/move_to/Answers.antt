@@ -16,8 +16,3 @@ link-requires-clause-off c =
       linked = (c.drop_at-next.ensures.walk on c.requires.walk.1 c.requires.walk.2).linked;
       off = placed_none c.args.place.node on;
     }
-
-pub returns-clause-walk : goal.returns-clause-walk
-returns-clause-walk c on rest w =
-    c.link.ensures.walk (placed c.args.place.node None on) c.args.code rest c.drop_at-next.result (c.drop_at-next.ensures.walk on rest w)
-    (placed_none c.args.place.node on) c.requires.other
