@@ -1,5 +1,5 @@
 //! What a solver has but for its chooser: the formula, the log, the trail and how it stands.
-ghost use Rattle.std.specs.Prelude.{◌≡◌, ◌<◌, ◌≤◌, ◌/◌, [], ◌++◌, ◌∷◌, true, false, None, All, length, IfOk, OnOk, OnErr};
+ghost use Rattle.std.specs.Prelude.{◌≡◌, ◌<◌, ◌≤◌, ◌/◌, [], ◌++◌, ◌∷◌, true, false, None, All, length, replicate, IfOk, OnOk, OnErr};
 ghost use Rattle.clause_base.specs.Clause.{IsClause};
 ghost use Rattle.clause_base.specs.Derivation.{clauses_of};
 ghost use Rattle.cdcl_rules.specs.State.{values_of, value_of};
@@ -57,8 +57,9 @@ impl Drop for Search {
 }
 
 impl Search {
-    /// The search over a formula before any event.
-    pub fn new(alloc: Global, formula: Formula) -> Result<Search, Memory>
+    /// The search over a formula before any event, with a propagator of its clauses.
+    fn over(alloc: Global, formula: Formula, propagator: Propagator) -> Result<Search, Memory>
+        requires { propagator ≡ record { variables = formula.variables; clauses = formula.clauses; kept = replicate (length formula.clauses) true; entries = [] } }
         ensures { IfOk result (λ s. s ≡ record { formula = formula; state = start_of formula; spoilt = false }) }
     {
         let variables = formula.variables();
@@ -66,12 +67,42 @@ impl Search {
         let _lawful = formula.count();
         Ok(Search {
             alloc,
-            propagator: Propagator::new(alloc, &formula)?,
+            propagator,
             analysis: Analysis::new(alloc, variables)?,
             standing: Standing::Going,
             spoilt: false,
             clauses: Clauses::new(alloc, formula),
         })
+    }
+
+    /// The search over a formula before any event.
+    pub fn new(alloc: Global, formula: Formula) -> Result<Search, Memory>
+        ensures { IfOk result (λ s. s ≡ record { formula = formula; state = start_of formula; spoilt = false }) }
+    {
+        let propagator = Propagator::new(alloc, &formula)?;
+        Search::over(alloc, formula, propagator)
+    }
+
+    /// The search over a formula before any event, in the memory of a search that is done with: the propagator has the large tables,
+    /// all others are made anew. Where memory is wanting, all of it is let go.
+    pub fn renewed(self, formula: Formula) -> Result<Search, Memory>
+        ensures { IfOk result (λ s. s ≡ record { formula = formula; state = start_of formula; spoilt = false }) }
+    {
+        let Search {
+            alloc,
+            clauses: _,
+            propagator,
+            analysis: _,
+            standing: _,
+            spoilt: _,
+        } = self;
+        let propagator = propagator.renewed(alloc, &formula)?;
+        Search::over(alloc, formula, propagator)
+    }
+
+    /// What gives it memory.
+    pub fn allocator(&self) -> Global {
+        self.alloc
     }
 
     /// The formula.

@@ -70,12 +70,11 @@ impl<C: Chooser + Drop> Drop for Solver<C> {
 }
 
 impl<C: Chooser + Drop> Solver<C> {
-    /// The solver of a formula, before any event. Where memory is wanting, formula and chooser are let go.
-    pub fn new(alloc: Global, formula: Formula, chooser: C) -> Result<Solver<C>, Memory>
-        requires { C.fits chooser formula.variables }
-        ensures start { IfOk result (λ s. s ≡ record { formula = formula; state = start_of formula; chooser = chooser; spoilt = false }) }
+    /// The solver with a search before any event, of which its chooser is told nothing yet.
+    fn over(alloc: Global, search: Search, chooser: C) -> Result<Solver<C>, Memory>
+        requires { C.fits chooser search.formula.variables }
+        ensures { IfOk result (λ s. s ≡ record { formula = search.formula; state = search.state; chooser = chooser; spoilt = search.spoilt }) }
     {
-        let search = Search::new(alloc, formula)?;
         let told = chooser.start(alloc)?;
         Ok(Solver {
             search,
@@ -83,6 +82,32 @@ impl<C: Chooser + Drop> Solver<C> {
             told,
             kept: 0,
         })
+    }
+
+    /// The solver of a formula, before any event. Where memory is wanting, formula and chooser are let go.
+    pub fn new(alloc: Global, formula: Formula, chooser: C) -> Result<Solver<C>, Memory>
+        requires { C.fits chooser formula.variables }
+        ensures start { IfOk result (λ s. s ≡ record { formula = formula; state = start_of formula; chooser = chooser; spoilt = false }) }
+    {
+        let search = Search::new(alloc, formula)?;
+        Solver::over(alloc, search, chooser)
+    }
+
+    /// The solver of a formula, before any event, in the memory of one that is done with, however it stands. Where memory is
+    /// wanting, all of it is let go, formula and chooser too.
+    pub fn renewed(self, formula: Formula, chooser: C) -> Result<Solver<C>, Memory>
+        requires { C.fits chooser formula.variables }
+        ensures start { IfOk result (λ s. s ≡ record { formula = formula; state = start_of formula; chooser = chooser; spoilt = false }) }
+    {
+        let Solver {
+            search,
+            chooser: _,
+            told: _,
+            kept: _,
+        } = self;
+        let alloc = search.allocator();
+        let search = search.renewed(formula)?;
+        Solver::over(alloc, search, chooser)
     }
 }
 
