@@ -6,6 +6,7 @@
 #![tactic(auto)]
 
 pub mod chains;
+mod factor;
 pub mod index;
 pub mod list;
 pub mod lists;
