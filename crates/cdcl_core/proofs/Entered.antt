@@ -12,7 +12,7 @@ use Rattle.cdcl_rules.specs.State.{State}
 use Rattle.cdcl_rules.specs.Learn.{Learned, backtracked}
 use Rattle.cdcl_rules.specs.Reduce.{candidates, first_half, kept_without}
 use Rattle.cdcl_rules.specs.Run.{after_conflict, with_learned, trail_after, dropped_after, is_restart, is_going}
-use Rattle.cdcl_laws.specs.Sound.{IsSound}
+use Rattle.cdcl_rules.specs.Sound.{IsSound}
 use Rattle.conflict_walk.specs.Analysis.{AnalysisView, IsReady}
 use Rattle.conflict_walk.specs.Clauses.{ClausesView, all_clauses}
 use Rattle.conflict_walk.proofs.Placed.{learned_learn, learned_drops}

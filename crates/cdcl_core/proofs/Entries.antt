@@ -6,7 +6,7 @@ use Rattle.cdcl_rules.specs.declared.event.Event.TheVariants.{Conflict, Force, D
 use Rattle.cdcl_rules.specs.declared.trail.Assigned.{Assigned}
 use Rattle.cdcl_rules.specs.State.{State, value_of}
 use Rattle.cdcl_rules.specs.Run.{apply, is_going}
-use Rattle.cdcl_laws.specs.Sound.{IsSound}
+use Rattle.cdcl_rules.specs.Sound.{IsSound}
 use Rattle.cdcl_core.specs.Search.{IsNextEvent}
 use Rattle.cdcl_core.proofs.Keeps.{next_sound, next_open}
 

@@ -19,11 +19,11 @@ use Rattle.cdcl_rules.specs.Run.{start_of, apply, after_conflict, is_going}
 use Rattle.clause_base.specs.Choice.{Known}
 use Rattle.cdcl_rules.proofs.Members.{at_clause}
 use Rattle.cdcl_rules.proofs.Pending.{Asks, asks}
-use Rattle.cdcl_laws.specs.Sound.{IsSound}
-use Rattle.cdcl_laws.proofs.Lawful.{IsGood, good_clause}
-use Rattle.cdcl_laws.proofs.Kept.{conflict_good, learnt, all_rising, sound_next, sound_undropped}
-use Rattle.cdcl_laws.proofs.Fuel.{opens}
-use Rattle.cdcl_laws.proofs.Start.{start_sound}
+use Rattle.cdcl_rules.specs.Sound.{IsSound}
+use Rattle.cdcl_rules.proofs.Lawful.{IsGood, good_clause}
+use Rattle.cdcl_rules.proofs.Kept.{conflict_good, learnt, all_rising, sound_next, sound_undropped}
+use Rattle.cdcl_rules.proofs.Fuel.{opens}
+use Rattle.cdcl_rules.proofs.Start.{start_sound}
 use Rattle.clause_base.specs.Derivation.{clause_kept}
 use Rattle.cdcl_trail.specs.Mirrored.{TrailView}
 use Rattle.conflict_walk.specs.Clauses.{ClausesView, all_clauses}

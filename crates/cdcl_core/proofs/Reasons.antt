@@ -13,8 +13,8 @@ use Rattle.cdcl_rules.proofs.Tests.{or_true}
 use Rattle.cdcl_rules.proofs.Members.{is_in, named_below}
 use Rattle.cdcl_rules.proofs.WalkLaw.{Names}
 use Rattle.cdcl_rules.proofs.Trails.{is_on-reverse}
-use Rattle.cdcl_laws.specs.Sound.{IsSound}
-use Rattle.cdcl_laws.proofs.Logs.{logged_names}
+use Rattle.cdcl_rules.specs.Sound.{IsSound}
+use Rattle.cdcl_rules.proofs.Logs.{logged_names}
 use Rattle.conflict_walk.specs.Walk.{IsForcedBy, IsReasoned}
 
 forced_by : (named : ℕ → Option (List ℕ)) (clauses : List (List ℕ)) → Names named clauses → (trail older : List Assigned) (l : ℕ) (o : Option ℕ) → ((m : ℕ) → is_on older m ≡ true → is_on trail m ≡ true) → HasReason named older l o → IsForcedBy clauses trail l o

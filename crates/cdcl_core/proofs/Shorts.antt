@@ -5,9 +5,9 @@ use Rattle.clause_base.specs.Choice.{Known}
 use Rattle.cdcl_rules.specs.State.{State}
 use Rattle.cdcl_rules.specs.Open.{Opens}
 use Rattle.cdcl_rules.specs.Run.{next, is_going}
-use Rattle.cdcl_laws.specs.Sound.{IsSound}
-use Rattle.cdcl_laws.proofs.Kept.{sound_next}
-use Rattle.cdcl_laws.proofs.Cuts.{quiet_short}
+use Rattle.cdcl_rules.specs.Sound.{IsSound}
+use Rattle.cdcl_rules.proofs.Kept.{sound_next}
+use Rattle.cdcl_rules.proofs.Cuts.{quiet_short}
 use Rattle.cdcl_core.specs.Between.{after_events, IsShortBetween}
 
 one_sound : (f : Cnf) (choose : Known → Option ℕ) (s : State) (g : Bool) → is_going s.standing ≡ g → Opens f.variables choose → IsSound f s → IsSound f (if g then next choose s else s)

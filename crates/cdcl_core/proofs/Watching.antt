@@ -17,7 +17,7 @@ use Rattle.cdcl_rules.specs.declared.standing.Standing.{Standing}
 use Rattle.cdcl_rules.specs.Run.{is_going}
 use Rattle.cdcl_rules.specs.Reduce.{has_forced, is_candidate, candidates, first_half, kept_without}
 use Rattle.cdcl_rules.proofs.Tests.{and_split}
-use Rattle.cdcl_laws.proofs.Orders.{filter_rising, take_rising, range_rising}
+use Rattle.cdcl_rules.proofs.Orders.{filter_rising, take_rising, range_rising}
 use Rattle.cdcl_trail.specs.Assignment.{literals}
 use Rattle.cdcl_trail.specs.Mirrored.{TrailView}
 use Rattle.cdcl_trail.proofs.Assignments.{has_is}

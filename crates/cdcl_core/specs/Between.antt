@@ -2,7 +2,7 @@ use Rattle.std.specs.Prelude.{◌≡◌, ℕ, zero, suc, ◌≤◌, true, Option
 use Rattle.clause_base.specs.Choice.{Known}
 use Rattle.cdcl_rules.specs.State.{State}
 use Rattle.cdcl_rules.specs.Run.{next, is_going}
-use Rattle.cdcl_laws.specs.Laws.{IsQuiet}
+use Rattle.cdcl_rules.specs.Laws.{IsQuiet}
 
 -- the state after so many more events; once it is settled it stays
 abbrev pub after_events : (Known → Option ℕ) → ℕ → State → State

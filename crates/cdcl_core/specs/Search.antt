@@ -13,7 +13,7 @@ use Rattle.cdcl_rules.specs.Event.{asked, event_of}
 use Rattle.cdcl_rules.specs.Learn.{backjump_level}
 use Rattle.cdcl_rules.specs.Run.{is_restart, is_going, is_conflict}
 use Rattle.cdcl_rules.specs.Open.{Opens}
-use Rattle.cdcl_laws.specs.Sound.{IsSound}
+use Rattle.cdcl_rules.specs.Sound.{IsSound}
 use Rattle.conflict_walk.specs.Clauses.{ClausesView, all_clauses}
 use Rattle.conflict_walk.specs.Analysis.{AnalysisView, IsReady}
 use Rattle.propagation.specs.Pending.{PropagatorView}

@@ -6,7 +6,7 @@ ghost use Rattle.cdcl_rules.specs.State.{values_of, value_of};
 ghost use Rattle.cdcl_rules.specs.Trail.{AllFalse};
 ghost use Rattle.cdcl_rules.specs.Learn.{learned};
 ghost use Rattle.cdcl_rules.specs.Run.{start_of, apply, with_learned, after_conflict, is_restart, is_going};
-ghost use Rattle.cdcl_laws.specs.Sound.{IsSound};
+ghost use Rattle.cdcl_rules.specs.Sound.{IsSound};
 ghost use Rattle.cdcl_core.specs.Search.{SearchView, IsNextEvent, MayApply, GoesOn, asked_first, level_after};
 
 use crate::reduce::reduce;

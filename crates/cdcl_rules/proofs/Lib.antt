@@ -9,3 +9,14 @@ pub mod RunLaws
 pub mod Measure
 pub mod Advance
 pub mod Vector
+pub mod Orders
+pub mod Logs
+pub mod Lawful
+pub mod Drops
+pub mod Values
+pub mod Models
+pub mod Kept
+pub mod Fuel
+pub mod Start
+pub mod Cuts
+pub mod Stops

@@ -7,3 +7,5 @@ pub mod Open
 pub mod Learn
 pub mod Reduce
 pub mod Run
+pub mod Sound
+pub mod Laws

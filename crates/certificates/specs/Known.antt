@@ -7,7 +7,7 @@ use Rattle.step_laws.specs.Form.{OrderedTask}
 use Rattle.step_encoding.specs.Limits.{planner_literals}
 use Rattle.step_encoding.specs.Numbers.{literals_of}
 use Rattle.horizon_run.specs.Run.{choice_of}
-pub use Rattle.ordered_tasks.specs.Known.{IsOrdered, form_of, formula_at}
+pub use Rattle.step_plans.specs.Known.{IsOrdered, form_of, formula_at}
 
 -- where the chains of the formulas go
 module _ (places : Task → List (List ℕ) → List (List ℕ × ℕ)) where

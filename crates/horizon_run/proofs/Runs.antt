@@ -9,8 +9,8 @@ use Rattle.cdcl_rules.specs.declared.trail.Assigned.{Assigned}
 use Rattle.cdcl_rules.specs.Run.{start_of, after, is_going}
 use Rattle.cdcl_rules.specs.Open.{Opens}
 use Rattle.cdcl_rules.specs.State.{State}
-use Rattle.cdcl_laws.specs.Sound.{IsSound, made_true, truths_from}
-use Rattle.cdcl_laws.specs.Laws.{AfterIsSound, AfterAddsUp, AfterSettled, AfterIsWithin, AfterGrants, LogIsShort}
+use Rattle.cdcl_rules.specs.Sound.{IsSound, made_true, truths_from}
+use Rattle.cdcl_rules.specs.Laws.{AfterIsSound, AfterAddsUp, AfterSettled, AfterIsWithin, AfterGrants, LogIsShort}
 use Rattle.horizon_run.specs.Run.{RunView, choice_in, moved_to, reached, IsMoved, IsReached, IsRun, AddsUp, Stays}
 use Rattle.horizon_run.specs.Resume.{origin, moved_by, still, goes}
 

@@ -7,7 +7,7 @@ use Rattle.cdcl_rules.specs.declared.standing.Standing.TheVariants.{Going, Found
 use Rattle.cdcl_rules.specs.State.{State}
 use Rattle.cdcl_rules.specs.Open.{Opens}
 use Rattle.cdcl_rules.specs.Run.{start_of, after, is_going}
-use Rattle.cdcl_laws.specs.Sound.{IsSound, truths_of as trail_truths}
+use Rattle.cdcl_rules.specs.Sound.{IsSound, truths_of as trail_truths}
 use Rattle.goal_choice.specs.Means.{Means}
 use Rattle.goal_choice.specs.Choice.{choice_by}
 -- the choice by which the solver of a horizon decides: backwards from the goals

@@ -11,17 +11,17 @@ use Rattle.step_laws.specs.Form.{OrderedTask, AreSets, steps_at}
 use Rattle.step_encoding.specs.Limits.{most_literals}
 use Rattle.step_encoding.specs.Numbers.{literals_of}
 use Rattle.two_invariants.specs.Closed.{AreInvariants}
-use Rattle.cnf_text.specs.Text.{formula_text}
+use Rattle.sat_text.specs.Dimacs.{formula_text}
 use Rattle.lrat_judge.specs.Verdicts.{verdict_of}
 use Rattle.lrat_judge.specs.declared.verdict.Verdict.{Verdict}
-use Rattle.ordered_tasks.specs.Known.{form_of, formula_at}
+use Rattle.step_plans.specs.Known.{form_of, formula_at}
 use Rattle.requests.specs.declared.request.Stepping.{Stepping}
 use Rattle.plan_tasks.specs.Stepping.{places_by, is_plan_by}
 use Rattle.plan_endings.specs.declared.ending.Ending.TheVariants.{Listing}
 use Rattle.input_files.specs.declared.stop.Stop.{Stop}
 use Rattle.input_files.specs.declared.stop.Stop.TheVariants.{Ends, Memory}
 use Rattle.input_files.specs.Ends.{StopsBy}
-use Rattle.judge_endings.specs.declared.ended.Ended.TheVariants.{Plain}
+use Rattle.judge_top.specs.declared.ended.Ended.TheVariants.{Plain}
 use Rattle.judge_top.specs.Answers.{TapeRun, OfKnown, IsFormula, IsTooMany, TellsTooMany, IsToldOf, IsTold, IsBelow, HasNone, word_of, IsVerdict}
 use Rattle.judge_top.specs.declared.model.Told.{Told}
 use Rattle.judge_top.specs.declared.model.Told.TheVariants as told

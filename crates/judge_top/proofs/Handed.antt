@@ -6,8 +6,8 @@ use Rattle.plan_endings.specs.declared.ending.Ending.{Ending}
 use Rattle.input_files.specs.declared.stop.Stop.{Stop}
 use Rattle.input_files.specs.declared.stop.Stop.TheVariants.{Ends, Memory}
 use Rattle.input_files.specs.Ends.{EndsBy}
-use Rattle.judge_endings.specs.declared.ended.Ended.{Ended}
-use Rattle.judge_endings.specs.declared.ended.Ended.TheVariants.{Plain}
+use Rattle.judge_top.specs.declared.ended.Ended.{Ended}
+use Rattle.judge_top.specs.declared.ended.Ended.TheVariants.{Plain}
 use Rattle.grounding_laws.specs.Grounded.{Grounded}
 use Rattle.pd_model.specs.declared.parts.Parts.{Parts}
 use Rattle.plan_tasks.specs.Tasks.{AreTask, IsReady, StopsTask}

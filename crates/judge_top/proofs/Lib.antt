@@ -2,3 +2,4 @@ mod Handed
 mod Formulas
 mod Deciding
 mod Promises
+mod Fit

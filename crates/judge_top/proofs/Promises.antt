@@ -3,12 +3,12 @@ use Rattle.std.proofs.Common.{◌≡◌, ◌==◌, ◌≤◌, ◌+◌, ◌-◌, 
 use Rattle.std.specs.Prelude.{Contains, ◌⊎◌}
 use Rattle.std.proofs.lemmas.Bool.Decides.{eqb_tells}
 use Rattle.pl_io.specs.Outside.{Heard, Rose, appended}
-use Rattle.cnf_text.specs.Text.{formula_text}
+use Rattle.sat_text.specs.Dimacs.{formula_text}
 use Rattle.pd_task.specs.declared.error.PddlError.{PddlError}
 use Rattle.pd_task.specs.declared.error.PddlError.TheVariants as errors
 use Rattle.pd_model.specs.declared.parts.Parts.{Parts}
 use Rattle.grounding_laws.specs.Grounded.{Grounded}
-use Rattle.ordered_tasks.specs.Known.{form_of, formula_at}
+use Rattle.step_plans.specs.Known.{form_of, formula_at}
 use Rattle.lrat_judge.specs.Judged.{counted}
 use Rattle.lrat_judge.specs.Verdicts.{last_part, verdict_so_far, verdict_ended, verdict_of}
 use Rattle.lrat_judge.specs.declared.verdict.Verdict.{Verdict}
@@ -28,14 +28,14 @@ use Rattle.plan_tasks.specs.Laws.{TaskLaws}
 use Rattle.plan_tasks.proofs.Claims as claims
 use Rattle.plan_report.specs.Report.{plan_text}
 use Rattle.plan_report.specs.Laws.{IsSmallPlan}
-use Rattle.told_plans.specs.Laws.{PlanLaws}
-use Rattle.told_plans.proofs.Runs.{model_runs}
+use Rattle.plan_tasks.specs.PlanLaws.{PlanLaws}
+use Rattle.plan_tasks.proofs.TellingPlans.{model_runs}
 use Rattle.plan_tasks.proofs.Printing.{printed_is}
-use Rattle.judge_requests.specs.Seen.{Seen, formulas, judges, models, domain_of, problem_of}
-use Rattle.judge_requests.specs.Requested.{requested}
-use Rattle.judge_endings.specs.Ended.{status_of, text_of}
-use Rattle.judge_endings.specs.declared.ended.Ended.{Ended}
-use Rattle.judge_endings.specs.declared.ended.Ended.TheVariants.{Plain, Unread, Usage}
+use Rattle.judge_top.specs.Seen.{Seen, formulas, judges, models, domain_of, problem_of}
+use Rattle.judge_top.specs.Requested.{requested}
+use Rattle.judge_top.specs.Ended.{status_of, text_of}
+use Rattle.judge_top.specs.declared.ended.Ended.{Ended}
+use Rattle.judge_top.specs.declared.ended.Ended.TheVariants.{Plain, Unread, Usage}
 use Rattle.judge_top.specs.Answers.{TapeRun, OnceReady, not_ready, ready, AnswersFormula, AnswersJudge, AnswersModel, too_large, formula, unread, judged, model, ended_by, IsUnread, TellsTooMany, word_of}
 use Rattle.judge_top.specs.declared.model.Told.TheVariants as tolds
 use Rattle.judge_top.specs.Causes.{Answers, Comes, no_request, asked, ComesFor, StopsAt, OfTaken, HasFault, names_in, two_of}

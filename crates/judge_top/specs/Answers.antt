@@ -2,7 +2,7 @@
 use Rattle.std.specs.Prelude.{◌≡◌, ◌<◌, ℕ, Bool, List, codes, Result, Ok, Err, Option, Some, None}
 use Rattle.std.specs.List.{AllByRecursion}
 use Rattle.clause_base.specs.Formula.{Cnf, IsModel, IsUnsatisfiable, assignment_of}
-use Rattle.cnf_text.specs.Text.{formula_text}
+use Rattle.sat_text.specs.Dimacs.{formula_text}
 use Rattle.gt_core.specs.Task.{Task}
 use Rattle.gt_core.specs.Published.{order_of}
 use Rattle.grounding_laws.specs.Grounded.{Grounded}
@@ -14,9 +14,9 @@ use Rattle.pl_io.specs.declared.outside.TakeError.TheVariants as takes
 use Rattle.step_laws.specs.Form.{OrderedTask, AreSets, steps_at}
 use Rattle.step_encoding.specs.Limits.{most_literals}
 use Rattle.step_encoding.specs.Numbers.{literals_of}
-use Rattle.ordered_tasks.specs.Known.{IsOrdered, form_of, formula_at}
-use Rattle.model_text.specs.FirstFalse.{IsFirstFalse}
-use Rattle.model_text.specs.Text.{NoText as no_text, Values as values_read, model_of}
+use Rattle.step_plans.specs.Known.{IsOrdered, form_of, formula_at}
+use Rattle.sat_text.specs.FirstFalse.{IsFirstFalse}
+use Rattle.sat_text.specs.Values.{NoText as no_text, Values as values_read, model_of}
 use Rattle.plan_report.specs.Report.{plan_text}
 use Rattle.plan_report.specs.Laws.{IsSmallPlan}
 use Rattle.lrat_judge.specs.Verdicts.{verdict_of}
@@ -31,8 +31,8 @@ use Rattle.input_files.specs.declared.stop.Stop.{Stop}
 use Rattle.input_files.specs.declared.stop.Stop.TheVariants.{Ends, Memory}
 use Rattle.plan_tasks.specs.Stepping.{places_by, is_plan_by}
 use Rattle.plan_tasks.specs.Tasks.{AreTask, IsReady, StopsTask}
-use Rattle.judge_endings.specs.declared.ended.Ended.{Ended}
-use Rattle.judge_endings.specs.declared.ended.Ended.TheVariants.{Plain, Refuted, Rejected, Syntax, NoModel, NoText, Unread}
+use Rattle.judge_top.specs.declared.ended.Ended.{Ended}
+use Rattle.judge_top.specs.declared.ended.Ended.TheVariants.{Plain, Refuted, Rejected, Syntax, NoModel, NoText, Unread}
 use Rattle.judge_top.specs.declared.model.Given.{Given}
 use Rattle.judge_top.specs.declared.model.Given.TheVariants as given
 use Rattle.judge_top.specs.declared.model.Told.{Told}

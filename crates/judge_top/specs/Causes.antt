@@ -6,10 +6,10 @@ use Rattle.requests.specs.declared.request.Stepping.{Stepping}
 use Rattle.input_files.specs.Limits.{file_at}
 use Rattle.input_files.specs.Files.{StopsFrom, RoseAmong}
 use Rattle.plan_endings.specs.declared.ending.Ending.{Ending}
-use Rattle.judge_requests.specs.Seen.{Seen, formulas, judges, models, domain_of, problem_of}
-use Rattle.judge_requests.specs.Requested.{requested}
-use Rattle.judge_endings.specs.declared.ended.Ended.{Ended}
-use Rattle.judge_endings.specs.declared.ended.Ended.TheVariants.{Plain, Unread, Usage}
+use Rattle.judge_top.specs.Seen.{Seen, formulas, judges, models, domain_of, problem_of}
+use Rattle.judge_top.specs.Requested.{requested}
+use Rattle.judge_top.specs.declared.ended.Ended.{Ended}
+use Rattle.judge_top.specs.declared.ended.Ended.TheVariants.{Plain, Unread, Usage}
 use Rattle.judge_top.specs.Answers.{TapeRun, OnceReady, AnswersFormula, AnswersJudge, AnswersModel, IsUnread}
 
 -- the names of the domain and of the problem

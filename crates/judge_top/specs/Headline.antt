@@ -1,23 +1,23 @@
 -- What the judge promises of the files.
 use Rattle.std.specs.Prelude.{◌≡◌, ◌⊎◌, ℕ, Bool, List}
-use Rattle.cnf_text.specs.Text.{formula_text}
+use Rattle.sat_text.specs.Dimacs.{formula_text}
 use Rattle.pd_model.specs.declared.parts.Parts.{Parts}
 use Rattle.requests.specs.declared.request.Stepping.{Stepping}
 use Rattle.plan_tasks.specs.Stepping.{places_by}
-use Rattle.ordered_tasks.specs.Known.{form_of, formula_at}
+use Rattle.step_plans.specs.Known.{form_of, formula_at}
 use Rattle.plan_tasks.specs.Claims.{OfGrounded, NoStepPlan, NoPlan}
-pub use Rattle.told_plans.specs.Claims.{PlanRunsIn}
+pub use Rattle.plan_tasks.specs.ToldPlans.{PlanRunsIn}
 use Rattle.lrat_judge.specs.Verdicts.{verdict_of}
 use Rattle.lrat_judge.specs.declared.verdict.Verdict.{Verdict}
 use Rattle.lrat_judge.specs.declared.verdict.Verdict.TheVariants.{Refuted, Rejected, NotEmpty, Syntax}
-use Rattle.judge_endings.specs.Ended.{text_of}
-use Rattle.judge_endings.specs.declared.ended.Ended.TheVariants.{Plain, NoModel, NoText}
+use Rattle.judge_top.specs.Ended.{text_of}
+use Rattle.judge_top.specs.declared.ended.Ended.TheVariants.{Plain, NoModel, NoText}
 use Rattle.plan_endings.specs.declared.ending.Ending.{Ending}
 use Rattle.grounding_laws.specs.Grounded.{Grounded}
 use Rattle.plan_tasks.specs.Tasks.{AreTask, StopsTask}
 use Rattle.plan_report.specs.Report.{plan_text}
-use Rattle.model_text.specs.FirstFalse.{IsFirstFalse}
-use Rattle.model_text.specs.Text.{NoText as no_text, Values as values_read, model_of}
+use Rattle.sat_text.specs.FirstFalse.{IsFirstFalse}
+use Rattle.sat_text.specs.Values.{NoText as no_text, Values as values_read, model_of}
 use Rattle.clause_base.specs.Formula.{IsModel, assignment_of}
 use Rattle.step_laws.specs.Form.{steps_at}
 use Rattle.judge_top.specs.Answers.{word_of, ended_by}

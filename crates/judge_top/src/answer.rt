@@ -4,12 +4,12 @@ ghost use Rattle.input_files.specs.Limits.{most_bytes};
 ghost use Rattle.input_files.specs.Ends.{OnlyMemory};
 ghost use Rattle.judge_top.specs.Answers.{EndsWith, tape_run, OnceReady, AnswersFormula, AnswersJudge, AnswersModel, IsBelow, IsSmallTold, ended_by, ended_with};
 
+use crate::Ended;
 use crate::formula::formula_by;
 use crate::model::{Told, told_by};
 use crate::told::{told, word_of};
 use crate::verdict::verdict_on;
 use input_files::stop::Stop;
-use judge_endings::Ended;
 use lrat_judge::verdict::Verdict;
 use pl_io::{Bytes, Tape};
 use plan_endings::Ending;

@@ -3,18 +3,17 @@ ghost use Rattle.std.specs.Prelude.{◌≡◌, ◌≤◌, ℕ, List, length, map
 ghost use Rattle.pl_io.specs.Outside.{Agrees, fault_count};
 ghost use Rattle.input_files.specs.Files.{NotesAmong};
 ghost use Rattle.input_files.specs.Limits.{most_bytes};
-ghost use Rattle.judge_requests.specs.Requested.{requested, command_named};
-ghost use Rattle.judge_requests.specs.Seen.{seen, horizon_of};
+ghost use Rattle.judge_top.specs.Requested.{requested, command_named};
+ghost use Rattle.judge_top.specs.Seen.{seen, horizon_of};
 ghost use Rattle.judge_top.specs.Answers.{EndsWith, tape_run};
 ghost use Rattle.judge_top.specs.Causes.{Answers, OfModel, ComesFor, Comes, names_in, two_of};
 
 use crate::answer::{answer_formula, answer_judge, answer_model};
 use crate::verdict::open;
+use crate::{Ended, Request, read_words};
 use input_files::parts::two_of;
 use input_files::stop::Stop;
 use input_files::take::take_all;
-use judge_endings::Ended;
-use judge_requests::{Request, read_words};
 use pl_io::{Bytes, Shelf, TakeError, Tape};
 use requests::Stepping;
 use std::alloc::Global;

@@ -5,13 +5,21 @@
 #![tactic(auto)]
 
 mod answer;
+mod command;
 mod decide;
+mod ended;
 mod formula;
 mod model;
+mod read;
+mod request;
 mod told;
 mod top;
+mod values;
 mod verdict;
+mod written;
 
-pub use judge_endings::Ended;
+pub use ended::Ended;
 pub use plan_endings::Status;
+pub use read::read_words;
+pub use request::Request;
 pub use top::judge;

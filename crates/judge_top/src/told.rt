@@ -1,14 +1,14 @@
 //! The text of a formula.
 ghost use Rattle.std.specs.Prelude.{◌≡◌, IfOk};
-ghost use Rattle.cnf_text.specs.Text.{formula_text};
+ghost use Rattle.sat_text.specs.Dimacs.{formula_text};
 ghost use Rattle.input_files.specs.Ends.{OnlyMemory};
 ghost use Rattle.judge_top.specs.Answers.{word_of};
 
 use clause_base::formula::Formula;
-use cnf_text::text::Text;
 use input_files::stop::Stop;
 use pl_io::Bytes;
 use requests::Stepping;
+use sat_text::dimacs::Text;
 use std::alloc::Global;
 
 /// The word for a kind of steps.

@@ -4,18 +4,18 @@ ghost use Rattle.pl_io.specs.Outside.{Agrees, appended, TakesFront, Rose, fault_
 ghost use Rattle.requests.specs.declared.request.Stepping.{Stepping};
 ghost use Rattle.input_files.specs.Files.{NotesAmong};
 ghost use Rattle.plan_tasks.specs.Claims.{Printed, OfFiles};
-ghost use Rattle.judge_requests.specs.Requested.{requested, command_named};
-ghost use Rattle.judge_requests.specs.Seen.{formulas, judges, models};
-ghost use Rattle.judge_endings.specs.Ended.{status_of, text_of};
-ghost use Rattle.judge_endings.specs.declared.ended.Ended.{Ended};
+ghost use Rattle.judge_top.specs.Requested.{requested, command_named};
+ghost use Rattle.judge_top.specs.Seen.{formulas, judges, models};
+ghost use Rattle.judge_top.specs.Ended.{status_of, text_of};
+ghost use Rattle.judge_top.specs.declared.ended.Ended.{Ended};
 ghost use Rattle.judge_top.specs.Answers.{end_in, tape_run};
 ghost use Rattle.judge_top.specs.Causes.{Comes, OfTaken, HasFault, names_in};
 ghost use Rattle.judge_top.specs.Headline.{IsProvedNone, PlanRunsIn, TellsFormula, OfVerdict, IsAccepted, IsRejected, IsNoProof, TellsModel, TellsNoModel, TellsNoText, OrNoTask};
 
 use crate::decide::decide;
+use crate::written::written;
 use crate::{Ended, Status};
 use input_files::stop::Stop;
-use judge_endings::written::written;
 use pl_io::{Shelf, Sink, Tape};
 use std::alloc::Global;
 use std::thread::Threads;
@@ -113,7 +113,7 @@ pub fn judge<H: Threads + Sync, S: Shelf, T: Tape, K: Sink>(
     ensures tape_faults { T.faults tape.old ≤ T.faults tape.new }
     ensures faults { K.faults sink.old ≤ K.faults sink.new }
 {
-    told_plans::laws::laws();
+    plan_tasks::told_plans::laws();
     finish(alloc, decide(rt, alloc, words, shelf, tape), sink)
 }
 

@@ -4,7 +4,7 @@ ghost use Rattle.std.specs.Prelude.{◌≡◌, true};
 ghost use Rattle.clause_base.specs.Formula.{IsModel};
 
 use clause_base::formula::Formula;
-use model_text::test::first_false;
+use sat_text::first_false::first_false;
 
 /// Whether an assignment satisfies a formula.
 pub(crate) fn is_model(formula: &Formula, values: &[bool]) -> bool

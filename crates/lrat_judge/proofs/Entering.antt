@@ -5,7 +5,7 @@ use Rattle.std.specs.List.{list_all}
 use Rattle.std.proofs.Math.ListN.{drop_of_length-le}
 use Rattle.std.proofs.Math.Seq.{drop-cons}
 use Rattle.std.proofs.lemmas.Bool.{lt-ltb, le-ltb, ltb-true}
-use Rattle.id_table.specs.Ids.{Rises, place_of}
+use Rattle.lrat_judge.specs.Ids.{Rises, place_of}
 use Rattle.clause_base.specs.Clause.{clause_of}
 use Rattle.clause_base.specs.Formula.{Cnf}
 use Rattle.clause_base.specs.Derivation.{is_derived_after}
@@ -13,7 +13,7 @@ use Rattle.clause_base.specs.declared.log.Entry.{Entry}
 use Rattle.clause_base.specs.declared.log.Entry.TheVariants.{Learn, Drop}
 use Rattle.containers.specs.declared.memory.Memory.{Memory}
 use Rattle.rup_check.specs.Taken.{CheckerView, HasTaken}
-use Rattle.lrat_text.specs.Line.{LineView, codes_of, plain_ids, is_foreign}
+use Rattle.sat_text.specs.LratLine.{LineView, codes_of, plain_ids, is_foreign}
 use Rattle.lrat_judge.specs.Judged.{counted}
 use Rattle.lrat_judge.specs.Follow.{Known, number_named, numbers_named, rises, with_entry, with_clause, without, follow}
 use Rattle.lrat_judge.specs.Reached.{Enters, StandsAt, Stands}

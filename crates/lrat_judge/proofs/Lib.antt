@@ -2,3 +2,5 @@ pub mod Counted
 pub mod Entering
 pub mod Reading
 pub mod Taking
+pub mod Places
+pub mod First

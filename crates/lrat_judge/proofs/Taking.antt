@@ -6,7 +6,7 @@ use Rattle.containers.specs.declared.memory.Memory.{Memory}
 use Rattle.clause_base.specs.Formula.{Cnf}
 use Rattle.clause_base.specs.Derivation.{learns_empty}
 use Rattle.rup_check.specs.Taken.{CheckerView, HasTaken}
-use Rattle.lrat_text.specs.Line.{LineView, line_of}
+use Rattle.sat_text.specs.LratLine.{LineView, line_of}
 use Rattle.lrat_judge.specs.Judged.{Judged, counted}
 use Rattle.lrat_judge.specs.Follow.{Known, follow}
 use Rattle.lrat_judge.specs.Verdicts.{Outcome, Ends, Goes, outcome_known, outcome_line}

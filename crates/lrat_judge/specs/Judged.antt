@@ -4,7 +4,7 @@ use Rattle.std.specs.List.{list_any}
 use Rattle.clause_base.specs.Formula.{Cnf}
 use Rattle.clause_base.specs.Derivation.{IsDerivation, learns_empty}
 use Rattle.clause_base.specs.declared.log.Entry.{Entry}
-pub use Rattle.lrat_text.specs.Lines.{counted}
+pub use Rattle.sat_text.specs.Lines.{counted}
 use Rattle.rup_check.specs.Taken.{CheckerView, HasTaken}
 
 -- the formula that it judges proofs for, what its checker knows, the ids of the clauses, the offset and the count of the lines so far and of

@@ -2,3 +2,4 @@ pub mod Judged
 pub mod Follow
 pub mod Verdicts
 pub mod Reached
+pub mod Ids

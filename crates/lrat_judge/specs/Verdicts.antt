@@ -3,8 +3,8 @@ use Rattle.std.specs.Prelude.{ℕ, ◌+◌, ◌-◌, ◌==◌, List, [], ◌∷�
 use Rattle.std.specs.List.{list_any}
 use Rattle.clause_base.specs.Formula.{Cnf}
 use Rattle.clause_base.specs.Derivation.{learns_empty}
-use Rattle.lrat_text.specs.Line.{LineView, line_of}
-pub use Rattle.lrat_text.specs.Lines.{whole_lines, last_part, counted}
+use Rattle.sat_text.specs.LratLine.{LineView, line_of}
+pub use Rattle.sat_text.specs.Lines.{whole_lines, last_part, counted}
 use Rattle.lrat_judge.specs.Follow.{Known, known_first, follow}
 use Rattle.lrat_judge.specs.declared.verdict.Verdict.{Verdict}
 use Rattle.lrat_judge.specs.declared.verdict.Verdict.TheVariants.{More, Refuted, Rejected, NotEmpty, Syntax}

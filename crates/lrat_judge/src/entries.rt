@@ -3,18 +3,18 @@ ghost use Rattle.std.specs.Prelude.{◌≡◌, ℕ, List, true, false, Some, Non
 ghost use Rattle.clause_base.specs.Clause.{IsClause};
 ghost use Rattle.clause_base.specs.declared.log.Entry.{Entry};
 ghost use Rattle.clause_base.specs.declared.log.Entry.TheVariants.{Learn as learn_entry, Drop as drop_entry};
-ghost use Rattle.lrat_text.specs.Line.{LineView, IsHeld};
+ghost use Rattle.sat_text.specs.LratLine.{LineView, IsHeld};
 ghost use Rattle.rup_check.specs.Taken.{HasTaken};
 ghost use Rattle.lrat_judge.specs.Judged.{HasCounted, counted};
 ghost use Rattle.lrat_judge.specs.Follow.{Known, number_named, numbers_named, with_entry, with_clause, without};
 ghost use Rattle.lrat_judge.specs.Reached.{StandsAt, Stands, Enters};
 
+use crate::ids::IdTable;
 use clause_base::clause::Clause;
 use clause_base::literal::Lit;
 use clause_base::memory::Memory;
-use id_table::IdTable;
-use lrat_text::line::Line;
 use rup_check::checker::Checker;
+use sat_text::lrat_line::Line;
 use std::alloc::Global;
 
 // The number of the clause that an id names, from 0: the formula's come first.

@@ -2,7 +2,7 @@
 ghost use Rattle.std.specs.Prelude.{◌≡◌, ◌≢◌, ◌<◌, ◌+◌, ◌++◌, ◌∷◌, [], ℕ, List, true, length, IfOk, IfSome, IfNone};
 ghost use Rattle.clause_base.specs.Formula.{IsUnsatisfiable};
 ghost use Rattle.lrat_judge.specs.Judged.{IsRefutedBy};
-ghost use Rattle.lrat_text.specs.Line.{line_of};
+ghost use Rattle.sat_text.specs.LratLine.{line_of};
 ghost use Rattle.lrat_judge.specs.Follow.{Known};
 ghost use Rattle.lrat_judge.specs.Verdicts.{outcome_line, verdict_of};
 ghost use Rattle.lrat_judge.specs.Reached.{IsBefore, Comes, HasRead, has_no_end};
@@ -11,7 +11,7 @@ use crate::lines::Lines;
 use crate::verdict::Verdict;
 use clause_base::formula::Formula;
 use clause_base::memory::Memory;
-use lrat_text::lines::first_line;
+use sat_text::lines::first_line;
 use std::alloc::Global;
 use std::marker::Model;
 

@@ -17,6 +17,7 @@
 #![tactic(auto)]
 
 mod entries;
+mod ids;
 pub mod judge;
 mod lines;
 pub mod verdict;

@@ -2,18 +2,18 @@
 ghost use Rattle.std.specs.Prelude.{◌≡◌, ◌+◌, ℕ, List, [], length, IfOk};
 ghost use Rattle.clause_base.specs.Formula.{IsUnsatisfiable};
 ghost use Rattle.lrat_judge.specs.Judged.{IsRefutedBy, HasCounted};
-ghost use Rattle.lrat_text.specs.Line.{LineView, IsHeld, line_of};
+ghost use Rattle.sat_text.specs.LratLine.{LineView, IsHeld, line_of};
 ghost use Rattle.lrat_judge.specs.Follow.{Known, known_first, follow};
 ghost use Rattle.lrat_judge.specs.Verdicts.{outcome_line};
 ghost use Rattle.lrat_judge.specs.Reached.{StandsAt, Stands, IsBefore, Comes};
 
 use crate::entries::{forget, learn};
+use crate::ids::IdTable;
 use crate::verdict::Verdict;
 use clause_base::formula::Formula;
 use clause_base::memory::Memory;
-use id_table::IdTable;
-use lrat_text::line::Line;
 use rup_check::checker::Checker;
+use sat_text::lrat_line::Line;
 use std::alloc::Global;
 use std::marker::Model;
 

@@ -9,7 +9,7 @@ use Rattle.pd_model.specs.declared.parts.Parts.{Parts}
 use Rattle.pd_plan.specs.Fault as plan
 use Rattle.pd_plan.specs.PlanFile.{plan_file}
 use Rattle.grounding_laws.specs.Grounded.{Grounded}
-use Rattle.task_text.specs.Text.{ground_text, order_text}
+use Rattle.plan_report.specs.Listings.{ground_text, order_text}
 use Rattle.plan_report.specs.Report.{report_of}
 use Rattle.plan_report.specs.Laws.{IsSmall}
 use Rattle.requests.specs.Seen.{Seen, Numbers, numbers, plans_by, checks, grounds, orders, generates, proves, verifies, batches}

@@ -22,6 +22,7 @@ use pd_model::{Calls, Pddl, Verdict};
 use pd_plan::{PlanFault, read_plan};
 use pl_io::Bytes;
 use plan_endings::{Ending, File, Kind};
+use plan_report::{push_ground, push_order};
 use plan_tasks::ready::read_ready;
 use plan_tasks::task::read_task;
 use requests::{Request, Stepping};
@@ -29,7 +30,6 @@ use solver_pool::Gate;
 use std::alloc::Global;
 use std::sync::Wait;
 use std::thread::Threads;
-use task_text::{push_ground, push_order};
 use two_invariants::find;
 
 /// What the bytes of its files, in the order of the words, decide for a request.

@@ -33,7 +33,7 @@ use Rattle.plan_report.specs.Laws.{IsSmall, IsSmallLine, HasCalls, Tells}
 use Rattle.certificates.specs.Known.{IsOrdered, form_of, choice_at, formula_at}
 use Rattle.plan_claims.specs.Laws.{Laws}
 use Rattle.plan_tasks.proofs.Claims as low
-use Rattle.told_plans.proofs.Runs as runs
+use Rattle.plan_tasks.proofs.TellingPlans as runs
 use Rattle.plan_tasks.proofs.Claims.{as_barred}
 use Rattle.requests.specs.Seen.{numbers}
 use Rattle.requests.specs.declared.request.Stepping.{Stepping}

@@ -19,7 +19,7 @@ use Rattle.gt_core.specs.AllStep.{HasMembersOnce}
 use Rattle.gt_core.specs.Published.{order_of}
 use Rattle.grounding_laws.specs.Grounded.{Grounded, IsGrounded}
 use Rattle.grounding_laws.specs.Laws.{AreNumbers}
-use Rattle.task_text.specs.Text.{ground_text, order_text}
+use Rattle.plan_report.specs.Listings.{ground_text, order_text}
 use Rattle.race_end.specs.Ends.{Word, WordRefuted, WordDropped, WordOpen, WordPlan}
 use Rattle.step_plans.specs.Plans.{actions_in}
 use Rattle.plan_report.specs.Report.{word_text, plan_line, exhausted_line, conflicts_line, calls_by_step}
@@ -38,7 +38,7 @@ use Rattle.plan_answers.specs.Answers.{OfSettings}
 use Rattle.plan_answers.specs.Stepping.{places_by, is_plan_by}
 use Rattle.plan_answers.specs.Tasks.{AreTask}
 pub use Rattle.plan_tasks.specs.Claims.{Printed, OfFiles, OfGrounded, HasAtLeast, NoStepPlan, NoPlan}
-pub use Rattle.told_plans.specs.Claims.{PlanRuns}
+pub use Rattle.plan_tasks.specs.ToldPlans.{PlanRuns}
 
 -- what was handed over in between is two files that are a task, and a third file, of whose bytes the claim holds too
 abbrev pub OfThreeFiles : List Heard → List Heard → List ℕ → List ℕ → List ℕ → (List ℕ → Parts → Type 0) → Type 0

@@ -5,7 +5,7 @@ use Rattle.two_invariants.specs.Laws.{InvariantsHold, OneListOfInvariants}
 use Rattle.grounding_laws.specs.Laws.{OneResult, GroundedIsTask, ActionsAreCalls, GoalsAgree}
 use Rattle.requests.specs.Seen.{NumbersAreSettings}
 use Rattle.plan_tasks.specs.Laws.{TaskLaws}
-use Rattle.told_plans.specs.Laws.{PlanLaws}
+use Rattle.plan_tasks.specs.PlanLaws.{PlanLaws}
 use Rattle.step_plans.specs.Laws.{StepPlansRun, ShortPlansAreStepPlans, OtherPlansAreLonger, SetsAreLists, ListedHaveActionsOnce, ListedAreInOrder, SetsAtPlacesAreListed}
 use Rattle.proof_text.specs.Laws.{OneSpelling, OnePlace, LinesAreRead, TextsAreFit}
 use Rattle.plan_report.specs.Laws.{LinesAreReadBack, PlansAreRead, StepsAreTold, HorizonsAreTold}

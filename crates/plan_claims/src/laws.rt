@@ -14,5 +14,5 @@ pub fn laws()
     plan_report::laws::laws();
     proof_text::laws::laws();
     plan_tasks::laws::laws();
-    told_plans::laws::laws();
+    plan_tasks::told_plans::laws();
 }

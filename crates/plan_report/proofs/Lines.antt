@@ -15,7 +15,7 @@ use Rattle.pd_model.specs.declared.calls.Call.{Call}
 use Rattle.pd_model.specs.declared.parts.Parts.{Parts}
 use Rattle.grounding_laws.specs.Grounded.{Grounded}
 use Rattle.grounding_laws.specs.Laws.{AreNumbers}
-use Rattle.task_text.specs.Text.{call_at}
+use Rattle.plan_report.specs.Listings.{call_at}
 use Rattle.race_end.specs.Ends.{Word, WordRefuted, WordDropped, WordOpen, WordPlan, LineView, EndView, Planned, Exhausted, Unfinished, lines_in, conflicts_in}
 use Rattle.step_plans.specs.Plans.{actions_in}
 use Rattle.plan_report.specs.Report.{word_text, entry_of, conflicts_line, plan_line, exhausted_line, end_line, step_line, step_lines, action_text, calls_by_step, plan_lines, last_lines}

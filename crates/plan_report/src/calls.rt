@@ -5,12 +5,12 @@ ghost use Rattle.report_lines.specs.Lines.{joined};
 ghost use Rattle.plan_report.specs.Report.{action_text, step_line, step_lines, calls_by_step};
 ghost use Rattle.step_plans.specs.Plans.{actions_in};
 
+use crate::push_call;
 use action_order::numbers::ActNumbers;
 use grounder::Grounded;
 use pd_model::{Memory, Pddl};
 use report_lines::push_number;
 use std::alloc::Global;
-use task_text::push_call;
 
 /// Appends the line of an action's call.
 fn push_action(p: &Pddl, g: &Grounded, a: u32, text: &mut Vec<u8>) -> Result<(), Memory>

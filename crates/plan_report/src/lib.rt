@@ -2,14 +2,21 @@
 //!
 //! `specs/Report.antt` says which bytes. A text is its lines, joined; `laws` says what a reader finds in them: the calls
 //! of a plan, the sets of its steps, and of each horizon what the race came to.
+//!
+//! `listings` has the lines of a ground task and of its published order; `specs/Listings.antt` says which.
 #![tactic(auto)]
 
 mod calls;
 mod horizons;
 pub mod laws;
+mod listings;
 mod report;
+mod task_lines;
+mod task_names;
 mod text;
 
+pub use listings::{push_ground, push_order};
 pub use report::{plan_text, report_text, summary_text};
 pub use step_plans::linear::linearise;
+pub use task_names::push_call;
 pub use text::Text;

@@ -11,7 +11,7 @@ use Rattle.step_laws.specs.Form.{AreSets, member_at}
 use Rattle.step_plans.specs.Plans.{IsStepPlanOf}
 use Rattle.requests.specs.declared.request.Stepping.{Stepping}
 use Rattle.requests.specs.declared.request.Stepping.TheVariants.{Exists, All}
-use Rattle.ordered_tasks.specs.Known.{IsOrdered}
+use Rattle.step_plans.specs.Known.{IsOrdered}
 use Rattle.plan_tasks.specs.Stepping.{is_plan_by, bars_by}
 use Rattle.plan_tasks.specs.Tasks.{IsReady}
 use Rattle.plan_tasks.specs.Claims.{OfGrounded, HasAtLeast, NoStepPlan, NoPlan}

@@ -24,7 +24,7 @@ use Rattle.pd_model.specs.Plan.{verdict}
 use Rattle.pd_model.specs.declared.calls.Call.{Call}
 use Rattle.pd_model.specs.declared.parts.Parts.{Parts}
 use Rattle.grounding_laws.specs.Grounded.{Grounded}
-use Rattle.task_text.specs.Text.{order_text}
+use Rattle.plan_report.specs.Listings.{order_text}
 use Rattle.proof_text.specs.Place.{IsUnfitAt}
 use Rattle.plan_gen.specs.declared.Kind.{Kind as Generated}
 use Rattle.plan_gen.specs.Task.{domain_of, problem_of}

@@ -16,7 +16,7 @@ use Rattle.race.specs.Input.{RaceInput, input_of as race_input}
 use Rattle.race.specs.Begun.{IsEndOf}
 use Rattle.race.specs.declared.error.RaceError.{RaceError}
 use Rattle.race.specs.declared.error.RaceError.TheVariants as errors
-use Rattle.poll_race.specs.View.{RaceView, Gives}
+use Rattle.poll_batch.specs.View.{RaceView, Gives}
 use Rattle.race.specs.Lines.{AreLines, EachRefuted}
 use Rattle.race.specs.Ends.{WherePlanned, AreActions, AreStepsOf, SumsWithin}
 use Rattle.plan_answers.specs.Raced.{input_of, ArePlan}

@@ -6,7 +6,7 @@ use Rattle.race_end.specs.declared.end.RaceEnd.{RaceEnd}
 use Rattle.race.specs.declared.error.RaceError.{RaceError}
 use Rattle.race.specs.declared.error.RaceError.TheVariants as errors
 use Rattle.step_laws.specs.Form.{OrderedTask}
-use Rattle.poll_race.specs.View.{RaceView}
+use Rattle.poll_batch.specs.View.{RaceView}
 use Rattle.certificates.specs.Known.{form_of}
 use Rattle.horizon_formula.specs.Variables.{chain_places}
 use Rattle.gt_core.specs.Step.{IsStepPlan}

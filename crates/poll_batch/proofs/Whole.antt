@@ -15,7 +15,7 @@ use Rattle.race.specs.Ends.{AreStepsOf, SumsWithin, WherePlanned, AreActions}
 use Rattle.race.specs.Input.{input_of}
 use Rattle.race.specs.Lines.{AreLines, EachRefuted}
 use Rattle.race.specs.Race.{race_of, Ended, TooLarge}
-use Rattle.poll_race.specs.View.{RaceView, Gives as MayGive}
+use Rattle.poll_batch.specs.View.{RaceView, Gives as MayGive}
 use Rattle.race.proofs.Starts.{all-push}
 use Rattle.poll_run.proofs.Slots.{all-read, zip-push}
 use Rattle.poll_batch.specs.declared.anew.Kept.{Kept}

@@ -5,7 +5,7 @@ use Rattle.step_encoding.specs.declared.form.StepForm.{Ghosts}
 use Rattle.race_end.specs.declared.end.RaceEnd.{RaceEnd}
 use Rattle.race.specs.declared.error.RaceError.{RaceError}
 use Rattle.race.specs.Begun.{Gives}
-use Rattle.poll_race.specs.View.{RaceView}
+use Rattle.poll_batch.specs.View.{RaceView}
 use Rattle.poll_batch.specs.declared.anew.Kept.{Kept}
 
 -- each place of a list of so many items once

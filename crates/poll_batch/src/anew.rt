@@ -3,10 +3,10 @@ ghost use Rattle.std.specs.Prelude.{◌≡◌, IfOk};
 ghost use Rattle.std.specs.List.{AllByRecursion, AllZip};
 ghost use Rattle.poll_batch.specs.Batch.{IsFormed, IsKeptOf, KeptGives};
 
+use crate::PollRace;
 use clause_base::memory::Memory;
 use gt_core::task::Task;
 use horizon_rates::Settings;
-use poll_race::PollRace;
 use race::{RaceError, race};
 use race_end::RaceEnd;
 use solver_pool::OpenGate;

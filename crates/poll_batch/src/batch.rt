@@ -1,13 +1,13 @@
 // Several races, polled in turn.
 ghost use Rattle.std.specs.Prelude.{◌≡◌, ◌≤◌, false, length, IfOk};
 ghost use Rattle.std.specs.List.{AllByRecursion, AllZip};
-ghost use Rattle.poll_race.specs.View.{Gives};
+ghost use Rattle.poll_batch.specs.View.{Gives};
 ghost use Rattle.poll_batch.specs.Batch.{IsOrder};
 
+use crate::PollRace;
 use crate::anew::{kept_of, run_anew};
 use clause_base::memory::Memory;
 use containers::ListOf;
-use poll_race::PollRace;
 use poll_run::{Driver, TurnsError, drive_in_turns};
 use race::RaceError;
 use race_end::RaceEnd;

@@ -5,7 +5,7 @@ use Rattle.clap.specs.Walk.{Text, Rule}
 use Rattle.clap.specs.Simple.{App, new_app}
 use Rattle.clap.specs.declared.builder.value_parser.ValueParser.{ValueParser}
 use Rattle.clap.specs.declared.builder.value_parser.ValueParser.TheVariants as reader
-use Rattle.clap_words.specs.Arguments.{word, reading_word, many_words, option, number, one_among, TakesWords, with_rules}
+use Rattle.requests.specs.Arguments.{word, reading_word, many_words, option, number, one_among, TakesWords, with_rules}
 use Rattle.requests.specs.declared.command.Name.{Name}
 use Rattle.requests.specs.declared.command.Name.TheVariants.{Plan, Check, Ground, Order, Gen, Prove, Verify, Batch}
 use Rattle.requests.specs.declared.command.Readers.{Readers}

@@ -4,3 +4,7 @@ pub mod OneTask
 pub mod Ranges
 pub mod Requested
 pub mod Seen
+pub mod Arguments
+pub mod Fit
+pub mod Passed
+pub mod Same

@@ -1,7 +1,7 @@
 -- The numbers in a command's matches are in their ranges.
 use Rattle.std.specs.Prelude.{List, codes, ⊤}
 use Rattle.clap.specs.Walk.{Row}
-use Rattle.clap_words.specs.Passed.{HasNumber}
+use Rattle.requests.specs.Passed.{HasNumber}
 use Rattle.requests.specs.declared.command.Name.{Name}
 use Rattle.requests.specs.declared.command.Name.TheVariants as name
 

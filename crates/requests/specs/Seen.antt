@@ -2,7 +2,7 @@
 use Rattle.std.specs.Prelude.{◌≡◌, ◌≤◌, ◌&&◌, ⊤, ℕ, Option, Some, None, List, [], ◌∷◌, codes, length, nat_le, if◌then◌else◌}
 use Rattle.std.specs.Str.{bytes_eq}
 use Rattle.clap.specs.Walk.{Text, Row, texts}
-use Rattle.clap_words.specs.Passed.{text_at, texts_at, number_at}
+use Rattle.requests.specs.Passed.{text_at, texts_at, number_at}
 use Rattle.horizon_rates.specs.declared.rates.Algorithm.{Algorithm}
 use Rattle.horizon_rates.specs.declared.rates.Algorithm.TheVariants.{A, B, C}
 use Rattle.horizon_rates.specs.declared.settings.Settings.{Settings}

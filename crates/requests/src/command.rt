@@ -1,13 +1,13 @@
 //! The commands, as `clap` is told of them.
 ghost use Rattle.std.specs.Prelude.{◌≡◌, ◌++◌, map, IfOk, OnOk, Some, None};
 ghost use Rattle.clap.specs.Words.{app_of};
-ghost use Rattle.clap_words.specs.Arguments.{rule_for};
+ghost use Rattle.requests.specs.Arguments.{rule_for};
 ghost use Rattle.requests.specs.Command.{named, two, options, race_options, word_of, rules_of, command_of, AreReaders};
 
 use crate::request::Stepping;
+use crate::{Argument, put, with_all};
 use clap::Command;
 use clap::builder::ValueParser;
-use clap_words::{Argument, put, with_all};
 use std::alloc::{AllocError, Global};
 
 /// The commands, by the word that names each.

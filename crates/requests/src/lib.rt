@@ -10,14 +10,21 @@
 //!     None => usage(),
 //! }
 //! ```
+//!
+//! A command line is read in one [`parse`] by `clap`, for commands that are made of [`Argument`]s.
 #![tactic(auto)]
 
+mod building;
 mod command;
 pub mod laws;
+mod parsed_values;
+mod parsing;
 mod read;
 mod request;
 mod values;
 
-pub use clap_words::Memory;
+pub use building::{Argument, put, with_all};
+pub use parsed_values::{number, text, texts};
+pub use parsing::{Memory, parse};
 pub use read::read_words;
 pub use request::{Problems, Request, Show, Stepping, Turns};

@@ -6,7 +6,7 @@ ghost use Rattle.requests.specs.Seen.{seen, IsSized};
 use crate::command::{Name, command_for, lists_of_words, name_of};
 use crate::request::Request;
 use crate::values::request_in;
-use clap_words::{Memory, parse};
+use crate::{Memory, parse};
 use std::alloc::Global;
 
 /// What the words after the program's name ask for; `None` exactly where they are not taken. A batch of more than 16

@@ -1,14 +1,14 @@
 //! The values in a command's matches.
 ghost use Rattle.std.specs.Prelude.{◌≡◌, ◌≤◌, codes, IfOk, IfSome, option_map};
 ghost use Rattle.clap.specs.Words.{found_of, rows_of};
-ghost use Rattle.clap_words.specs.Passed.{text_at};
+ghost use Rattle.requests.specs.Passed.{text_at};
 ghost use Rattle.requests.specs.Ranges.{HasNumbers, HasSettings, Has};
 ghost use Rattle.requests.specs.Seen.{algorithm_of, kind_of, show_of, turns_of, numbers, numbers_in, numbers_with, seen, seen_in, counted, IsSized};
 
 use crate::command::Name;
 use crate::request::{Problems, Request, Show, Turns};
+use crate::{Memory, number, text, texts};
 use clap::ArgMatches;
-use clap_words::{Memory, number, text, texts};
 use horizon_rates::{Algorithm, Rates, Settings};
 use plan_gen::Kind;
 use std::alloc::Global;

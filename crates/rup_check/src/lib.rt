@@ -9,6 +9,8 @@
 //!
 //! `effect` says what a hint comes to: all literals of its clause are false, or all but one, which is then taken as true, or
 //! neither; `falsified` has the literals that are taken as false.
+//!
+//! `pages` has the clauses that were learned, of which those that are dropped give their room back.
 #![tactic(auto)]
 
 pub mod check;
@@ -18,4 +20,6 @@ mod entry;
 pub mod falsified;
 mod kept;
 mod left;
+mod page;
+mod pages;
 mod steps;

@@ -9,13 +9,13 @@ use Rattle.implied_literals.specs.Breaks.{BreaksBy, Breaks}
 use Rattle.two_invariants.specs.Closed.{IsClosed, AreInvariants}
 use Rattle.implied_literals.specs.Rows.{clause_in, AreRows}
 use Rattle.implied_literals.specs.Tested.{AreKnown, AsksAmong, breaks_by}
-use Rattle.invariant_rounds.specs.Rounds.{breaks_any, IsRound}
+use Rattle.two_invariants.specs.Rounds.{breaks_any, IsRound}
 use Rattle.two_invariants.specs.Greatest.{Surrounds}
 use Rattle.implied_literals.specs.declared.known.Known.{Known}
 use Rattle.two_invariants.proofs.Fewer.{breaks_less}
 use Rattle.implied_literals.proofs.Exact.{breaks_to, breaks_from, either_breaks, breaks_either}
 use Rattle.std.proofs.Math.Bool.{or_comm}
-use Rattle.invariant_rounds.proofs.RoundLaw.{both_within, at_number, and_not_true}
+use Rattle.two_invariants.proofs.RoundLaw.{both_within, at_number, and_not_true}
 
 -- Each closed set is among the clauses that a round leaves; where it drops nothing, these are the invariants.
 

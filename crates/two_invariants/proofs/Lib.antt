@@ -4,3 +4,15 @@ pub mod OneList
 pub mod Surrounding
 pub mod Listing
 pub mod GreatestLaw
+pub mod Steps
+pub mod Grouping
+pub mod Indexing
+pub mod Counting
+pub mod Taking
+pub mod Numbering
+pub mod PlainEffects
+pub mod Dropping
+pub mod Contradicted
+pub mod RoundLaw
+pub mod Oks
+pub mod Firm

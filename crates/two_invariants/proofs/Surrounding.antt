@@ -6,10 +6,10 @@ use Rattle.gt_core.specs.Task.{Task, initial_state}
 use Rattle.gt_core.proofs.Basics.{and_split, and_both, not_true, not_false, not_split, same_test, test_same, apart, same_if}
 use Rattle.gt_core.proofs.Literals.{half_opposite}
 use Rattle.implied_literals.specs.Rows.{clause_in}
-use Rattle.invariant_rounds.specs.First.{is_first}
+use Rattle.two_invariants.specs.First.{is_first}
 use Rattle.two_invariants.specs.Greatest.{Surrounds}
 use Rattle.std.proofs.lemmas.Bool.{lt-ltb}
-use Rattle.invariant_rounds.proofs.Steps.{opposite_test}
+use Rattle.two_invariants.proofs.Steps.{opposite_test}
 
 -- The first clauses surround the invariants.
 

@@ -11,15 +11,15 @@ ghost use Rattle.two_invariants.specs.Greatest.{AreGreatest};
 ghost use Rattle.implied_literals.specs.Renewed.{asks};
 ghost use Rattle.gt_core.specs.Literal.{opposite};
 
+use crate::first::first_clauses;
 use crate::list::list_clauses;
+use crate::round::drop_broken;
 use bit_sets::row::BitRow;
 use gt_core::memory::Memory;
 use gt_core::pairs::Pairs;
 use gt_core::task::Task;
 use implied_literals::again::{first_known, prepare};
 use implied_literals::asked::asked_literals;
-use invariant_rounds::first::first_clauses;
-use invariant_rounds::round::drop_broken;
 use std::alloc::{AllocError, Global};
 use std::thread::Threads;
 

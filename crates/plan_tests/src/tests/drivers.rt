@@ -1,13 +1,13 @@
 // Runs under a driver that counts how often it polls.
 use super::runs::{Named, TurnNotes, ample_sink, holds, shelf_of, status_of};
 use super::tasks::{BLOCKS, TOWER, TOWER_PLAN};
-use counting_driver::Counting;
 use std::alloc::{AllocGlobal, Global};
 use std::process::Abort;
 use std::random::RandomSource;
 use std::sync::Wait;
 use std::sync::atomic::{AtomicU64, Ordering};
 use std::thread::Threads;
+use test_doubles::Counting;
 
 const FILES: [Named<'static>; 2] = [("d", BLOCKS), ("p", TOWER)];
 

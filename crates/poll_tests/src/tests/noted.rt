@@ -17,7 +17,7 @@ use std::sync::Wait;
 use std::thread::Threads;
 use step_encoding::form::{FormError, StepForm};
 use step_encoding::steps::Steps;
-use test_gates::Notes;
+use test_doubles::gates::Notes;
 
 /// A form under a number, and what notes that number where its formula is asked for.
 #[derive(Drop)]

@@ -1,7 +1,7 @@
 use Rattle.std.proofs.Common.{◌≡◌, ◌∙◌, ◌++◌, ℕ, List, take, sym, ap, subst, append-nil, rules}
 use Rattle.pl_io.specs.Tape.{Given}
-use Rattle.model_text.specs.Text.{model_of}
-use Rattle.model_text.specs.Stands.{HasRead}
+use Rattle.sat_text.specs.Values.{model_of}
+use Rattle.sat_text.specs.Stands.{HasRead}
 use Rattle.judge_top.specs.Answers.{tape_run}
 use Rattle.judge_top.proofs.model.read_given.Goals as goal
 

@@ -1,5 +1,5 @@
 use Rattle.std.proofs.Common.{◌≡◌, ◌≤◌, length}
-use Rattle.model_text.specs.Stands.{HasRead}
+use Rattle.sat_text.specs.Stands.{HasRead}
 use Rattle.judge_top.proofs.model.read_given.Given as goal
 
 -- the reader has read what the tape handed over, of the same file; the count of the tape's faults did not fall

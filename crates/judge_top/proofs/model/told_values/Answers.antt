@@ -1,7 +1,7 @@
 use Rattle.std.proofs.Common.{sym, ap, ◌∙◌, subst}
 use Rattle.clause_base.specs.Formula.{Cnf, Satisfies, assignment_of}
-use Rattle.model_text.specs.FirstFalse.{IsFirstFalse}
-use Rattle.model_text.specs.Text.{model_of}
+use Rattle.sat_text.specs.FirstFalse.{IsFirstFalse}
+use Rattle.sat_text.specs.Values.{model_of}
 use Rattle.judge_top.proofs.model.told_values.Goals as goal
 
 pub returns-in-Some-clause-told : goal.returns-in-Some-clause-told

@@ -1,5 +1,5 @@
 use Rattle.std.proofs.Common.{◌≡◌, ◌++◌, length}
-use Rattle.cnf_text.specs.Text.{formula_text}
+use Rattle.sat_text.specs.Dimacs.{formula_text}
 use Rattle.judge_top.proofs.told.told.Given as goal
 
 -- what was told, and what is left to be told, are the text

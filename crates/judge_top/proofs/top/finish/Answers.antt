@@ -1,5 +1,5 @@
 use Rattle.std.proofs.Common.{◌≡◌, Some, sym, ◌∙◌}
-use Rattle.judge_endings.specs.declared.ended.Ended.TheVariants.{Usage}
+use Rattle.judge_top.specs.declared.ended.Ended.TheVariants.{Usage}
 use Rattle.judge_top.proofs.top.finish.Goals as goal
 
 pub written-requires-clause-not_six : goal.written-requires-clause-not_six

@@ -1,5 +1,5 @@
 use Rattle.std.proofs.Common.{◌≡◌, ◌∙◌, ◌++◌, ℕ, List, ap}
-use Rattle.task_text.specs.Text.{ground_text}
+use Rattle.plan_report.specs.Listings.{ground_text}
 use Rattle.plan_endings.specs.declared.ending.Ending.TheVariants.{Listing}
 use Rattle.plan_answers.specs.Tasks.{grounded}
 use Rattle.plan_answers.specs.Answers.{AnswersGround}

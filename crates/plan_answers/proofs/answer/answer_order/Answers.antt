@@ -1,7 +1,7 @@
 use Rattle.std.proofs.Common.{◌≡◌, ◌∙◌, ◌++◌, ℕ, List, length, ap, subst}
 use Rattle.gt_core.specs.Task.{Task}
 use Rattle.two_invariants.specs.Closed.{AreInvariants}
-use Rattle.task_text.specs.Text.{order_text}
+use Rattle.plan_report.specs.Listings.{order_text}
 use Rattle.plan_endings.specs.declared.ending.Ending.TheVariants.{Listing}
 use Rattle.plan_answers.specs.Answers.{AnswersOrder}
 use Rattle.plan_answers.specs.Tasks.{OnceGrounded, grounded}

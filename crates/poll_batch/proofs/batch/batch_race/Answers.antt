@@ -1,6 +1,6 @@
 use Rattle.std.proofs.Common.{sym, subst, ◌∙◌}
 use Rattle.std.specs.List.{AllZip}
-use Rattle.poll_race.specs.View.{Gives}
+use Rattle.poll_batch.specs.View.{Gives}
 use Rattle.poll_batch.specs.Batch.{IsKeptOf, KeptGives}
 use Rattle.poll_batch.proofs.Whole.{anew}
 use Rattle.poll_run.proofs.Slots.{zip-then}

@@ -1,7 +1,7 @@
 use Rattle.std.proofs.Common.{[], ◌∷◌, map, codes}
-use Rattle.clap_words.specs.Arguments.{many_words, option, rule_for, word}
+use Rattle.requests.specs.Arguments.{many_words, option, rule_for, word}
 use Rattle.requests.specs.Command.{race_options}
-use Rattle.clap_words.proofs.Chain.{three_added}
+use Rattle.requests.proofs.Chain.{three_added}
 use Rattle.requests.proofs.command.put_batching.Goals as goal
 
 pub returns : goal.returns

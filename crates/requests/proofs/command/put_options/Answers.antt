@@ -1,4 +1,4 @@
-use Rattle.clap_words.proofs.Chain.{then_added}
+use Rattle.requests.proofs.Chain.{then_added}
 use Rattle.requests.proofs.command.put_options.Goals as goal
 
 pub returns : goal.returns

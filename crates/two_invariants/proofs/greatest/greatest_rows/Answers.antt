@@ -5,10 +5,10 @@ use Rattle.gt_core.specs.Literal.{opposite, state_of}
 use Rattle.gt_core.proofs.Within.{lawful, among_at}
 use Rattle.implied_literals.specs.Rows.{clause_in, AreRows}
 use Rattle.implied_literals.specs.Tested.{IsSetOf, AreKnown, act_at}
-use Rattle.invariant_rounds.specs.First.{is_first}
+use Rattle.two_invariants.specs.First.{is_first}
 use Rattle.implied_literals.specs.Renewed.{WereKnown, IsSettled, IsTested}
 use Rattle.two_invariants.proofs.Surrounding.{surrounds_first, not_opposite}
-use Rattle.invariant_rounds.proofs.RoundLaw.{actions_fit, all_settled, were_known}
+use Rattle.two_invariants.proofs.RoundLaw.{actions_fit, all_settled, were_known}
 use Rattle.two_invariants.proofs.GreatestLaw.{still_around, are_invariants}
 use Rattle.implied_literals.proofs.Unmoved.{asked_among, asked_within}
 use Rattle.two_invariants.proofs.greatest.greatest_rows.Goals as goal

@@ -4,7 +4,7 @@ use Rattle.implied_literals.specs.Rows.{clause_in, AreRows}
 use Rattle.implied_literals.specs.Tested.{AreKnown}
 use Rattle.two_invariants.specs.Greatest.{Surrounds}
 use Rattle.implied_literals.specs.Renewed.{IsTested}
-use Rattle.invariant_rounds.specs.Rounds.{clause_count}
+use Rattle.two_invariants.specs.Rounds.{clause_count}
 use Rattle.two_invariants.proofs.greatest.greatest_rows.Given as goal
 
 abbrev pub invariant-round : goal.invariant-round

@@ -5,7 +5,7 @@ use Rattle.cdcl_rules.specs.declared.event.Event.TheVariants.{Conflict, Finish}
 use Rattle.cdcl_rules.specs.State.{State}
 use Rattle.cdcl_rules.specs.Learn.{learned, Learned}
 use Rattle.cdcl_rules.specs.Run.{with_learned, after_conflict}
-use Rattle.cdcl_laws.specs.Sound.{IsSound}
+use Rattle.cdcl_rules.specs.Sound.{IsSound}
 use Rattle.cdcl_rules.specs.Trail.{AllFalse}
 use Rattle.cdcl_core.specs.Search.{SearchView, IsNextEvent}
 use Rattle.cdcl_core.proofs.Keeps.{learned_same, learned_is_clause, learned_is_false, undropped_sound, next_sound}

@@ -2,7 +2,7 @@ use Rattle.std.proofs.Common.{arith, ◌≡◌, ◌<◌, ◌/◌, List, [], ◌�
 use Rattle.cdcl_rules.specs.declared.trail.Assigned.{Assigned}
 use Rattle.cdcl_rules.specs.State.{value_of}
 use Rattle.cdcl_rules.specs.Run.{is_going}
-use Rattle.cdcl_laws.specs.Sound.{IsSound}
+use Rattle.cdcl_rules.specs.Sound.{IsSound}
 use Rattle.propagation.specs.Pending.{PropagatorView}
 use Rattle.cdcl_core.specs.Search.{SearchView, state_of, watched}
 use Rattle.cdcl_core.proofs.Watching.{watched_assign}

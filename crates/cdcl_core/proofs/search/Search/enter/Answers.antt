@@ -2,8 +2,8 @@ use Rattle.std.proofs.Common.{◌≡◌, ◌==◌, ℕ, List, [], length, refl, 
 use Rattle.clause_base.specs.Clause.{HasVariablesBelow}
 use Rattle.cdcl_rules.specs.Run.{after_conflict, with_learned}
 use Rattle.cdcl_rules.specs.Reduce.{candidates, first_half}
-use Rattle.cdcl_laws.specs.Sound.{IsSound}
-use Rattle.cdcl_laws.proofs.Fuel.{all_below}
+use Rattle.cdcl_rules.specs.Sound.{IsSound}
+use Rattle.cdcl_rules.proofs.Fuel.{all_below}
 use Rattle.conflict_walk.specs.Clauses.{ClausesView, all_clauses}
 use Rattle.cdcl_rules.specs.Learn.{Learned, backtracked}
 use Rattle.cdcl_core.specs.Search.{SearchView, GoesOn, level_after}

@@ -1,11 +1,11 @@
 use Rattle.std.proofs.Common.{◌≤◌, ◌+◌, refl, sym, subst, Result, Ok, Err, OnOk}
 use Rattle.cdcl_rules.specs.State.{State}
 use Rattle.cdcl_rules.specs.Open.{Opens}
-use Rattle.cdcl_laws.specs.Sound.{IsSound}
-use Rattle.cdcl_laws.proofs.Fuel.{after_is}
-use Rattle.cdcl_laws.proofs.Cuts.{adds_up, after_within, settled_stays}
-use Rattle.cdcl_laws.proofs.Stops.{grants, rests_always}
-use Rattle.cdcl_laws.specs.Laws.{AddsUp, ComesToRestAlways, Grants}
+use Rattle.cdcl_rules.specs.Sound.{IsSound}
+use Rattle.cdcl_rules.proofs.Fuel.{after_is}
+use Rattle.cdcl_rules.proofs.Cuts.{adds_up, after_within, settled_stays}
+use Rattle.cdcl_rules.proofs.Stops.{grants, rests_always}
+use Rattle.cdcl_rules.specs.Laws.{AddsUp, ComesToRestAlways, Grants}
 use Rattle.cdcl_core.specs.Between.{IsShortBetween}
 use Rattle.cdcl_core.specs.Search.{SolverView}
 use Rattle.cdcl_core.proofs.Logs.{goes_same}

@@ -4,7 +4,7 @@ use Rattle.clause_base.specs.Derivation.{clause_kept}
 use Rattle.clause_base.specs.Told.{told_values}
 use Rattle.cdcl_rules.specs.declared.trail.Assigned.{Assigned}
 use Rattle.cdcl_rules.proofs.Measure.{length-values_from}
-use Rattle.cdcl_laws.specs.Sound.{IsSound}
+use Rattle.cdcl_rules.specs.Sound.{IsSound}
 use Rattle.cdcl_core.specs.Search.{SearchView, SolverView}
 use Rattle.cdcl_trail.specs.Assignment.{literals}
 use Rattle.cdcl_core.specs.Told.{IsToldUpTo}

@@ -3,7 +3,7 @@ use Rattle.cdcl_rules.specs.Machine.{ComesToRest}
 use Rattle.cdcl_rules.specs.Event.{event_of}
 use Rattle.cdcl_rules.specs.Run.{next, rests, apply, is_going, is_conflict}
 use Rattle.cdcl_rules.proofs.Advance.{one_on, rests_here, rests_settled, conflicts_stay, conflict_below}
-use Rattle.cdcl_laws.proofs.Fuel.{left_falls}
+use Rattle.cdcl_rules.proofs.Fuel.{left_falls}
 use Rattle.cdcl_core.specs.Search.{SolverView, IsNextEvent, MayApply, GoesOn}
 use Rattle.cdcl_core.proofs.Keeps.{next_open}
 use Rattle.cdcl_core.proofs.Logs.{goes_then, goes_reached, goes_err}

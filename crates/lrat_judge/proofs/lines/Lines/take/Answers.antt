@@ -1,5 +1,5 @@
 use Rattle.std.proofs.Common.{◌≡◌, ◌∙◌, Bool, true, sym, ap, Ok, subst, arith, rules}
-use Rattle.lrat_text.specs.Line.{line_of}
+use Rattle.sat_text.specs.LratLine.{line_of}
 use Rattle.lrat_judge.specs.Judged.{Judged}
 use Rattle.lrat_judge.specs.Follow.{follow}
 use Rattle.lrat_judge.specs.Reached.{IsBefore, Stands}

@@ -1,9 +1,0 @@
-pub mod Chain
-pub mod Commands
-pub mod ListReaders
-pub mod Ranges
-mod Arguments
-mod PassedReaders
-mod NoFault
-mod Numbers
-mod Addresses

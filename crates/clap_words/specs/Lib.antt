@@ -1,4 +1,0 @@
-pub mod Arguments
-pub mod Fit
-pub mod Passed
-pub mod Same

@@ -1,5 +1,0 @@
-use Rattle.std.proofs.Common.{◌<◌, length}
-use Rattle.invariant_rounds.proofs.by_literal.no_lists.Given as goal
-
-abbrev pub invariant-loop : goal.invariant-loop
-invariant-loop l = 0 < length l.lists.items

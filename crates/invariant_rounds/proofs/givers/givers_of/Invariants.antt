@@ -1,6 +1,0 @@
-use Rattle.bit_sets.specs.Rows.{row_has}
-use Rattle.invariant_rounds.specs.Index.{AreGivers}
-use Rattle.invariant_rounds.proofs.givers.givers_of.Given as goal
-
-abbrev pub invariant-loop-number : goal.invariant-loop-number
-invariant-loop-number l = AreGivers (row_has l.set) l.groups l.number l.givers

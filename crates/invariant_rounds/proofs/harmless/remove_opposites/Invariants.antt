@@ -1,7 +1,0 @@
-use Rattle.std.proofs.Common.{◌≡◌, ◌&&◌, not, ℕ, drop}
-use Rattle.bit_sets.specs.Rows.{row_has}
-use Rattle.invariant_rounds.specs.Plain.{has_opposite}
-use Rattle.invariant_rounds.proofs.harmless.remove_opposites.Given as goal
-
-abbrev pub invariant-loop-effect : goal.invariant-loop-effect
-invariant-loop-effect l = (m : ℕ) → (row_has l.set m && not (has_opposite (drop l.effect-index l.effects) m)) ≡ (row_has l.initial.set m && not (has_opposite l.effects m))

@@ -1,6 +1,0 @@
-use Rattle.std.proofs.Common.{◌*◌}
-use Rattle.invariant_rounds.specs.Losses.{AreLosses}
-use Rattle.invariant_rounds.proofs.round.piece_losses.Given as goal
-
-abbrev pub invariant-loop-i : goal.invariant-loop-i
-invariant-loop-i l = AreLosses l.round.facts l.round.known.now l.round.clauses.now l.round.acts.now l.round.todo.now (2048 * l.piece) l.i l.lost.items

@@ -1,0 +1,16 @@
+use Rattle.std.proofs.Common.{◌∙◌, refl, sym, ap, option_copied, option_and_then, map, string_bytes}
+use Rattle.judge_top.specs.Command.{named}
+use Rattle.requests.proofs.Commands.{by_first, no_words}
+use Rattle.judge_top.specs.Requested.{command_named, requested_of}
+use Rattle.judge_top.proofs.read.read_words.Goals as goal
+
+pub returns-in_default-clause-request : goal.returns-in_default-clause-request
+returns-in_default-clause-request c =
+    let none = no_words named command_named refl (λ word words. refl) c.args.words.now (sym c.first.ensures.value ∙ ap option_copied c.in_default.is) in
+    sym (ap (option_and_then (λ name. requested_of name (map string_bytes c.args.words.now))) none)
+
+pub returns-in-None-clause-request : goal.returns-in-None-clause-request
+returns-in-None-clause-request c =
+    let head = by_first named command_named refl (λ word words. refl) c.args.words.now c.in-Some.first.now (sym c.first.ensures.value ∙ ap option_copied c.in-Some.is) in
+    let none = head ∙ (sym (ap named c.as_str.ensures.value) ∙ (sym c.name_of.ensures ∙ c.in-None.is)) in
+    sym (ap (option_and_then (λ name. requested_of name (map string_bytes c.args.words.now))) none)

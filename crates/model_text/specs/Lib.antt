@@ -1,3 +1,0 @@
-pub mod FirstFalse
-pub mod Text
-pub mod Stands

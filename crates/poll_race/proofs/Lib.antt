@@ -1,5 +1,0 @@
-pub mod Lists
-pub mod Polled
-pub mod Standing
-pub mod Falls
-pub mod OnePolled

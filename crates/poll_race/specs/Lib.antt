@@ -1,5 +1,0 @@
-pub mod Numbers
-pub mod OnePoll
-pub mod Works
-pub mod Tied
-pub mod View

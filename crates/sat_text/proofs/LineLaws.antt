@@ -1,0 +1,209 @@
+-- Numbers read up to a 0, one after another.
+use Rattle.std.proofs.Common.{◌≡◌, ◌==◌, ◌||◌, Result, Ok, not, ℕ, List, [], ◌∷◌, ◌++◌, length, map, filter, drop, Bool, true, false, Option, Some, None, option_map, if◌then◌else◌, refl, sym, ap, ◌∙◌, subst, append_assoc, append-nil}
+use Rattle.std.specs.Prelude.{codes}
+use Rattle.std.specs.List.{list_any}
+use Rattle.std.proofs.lemmas.List.{map-append}
+use Rattle.std.proofs.lemmas.List.Elements.{filter-append}
+use Rattle.containers.specs.declared.memory.Memory.{Memory}
+use Rattle.sat_text.specs.declared.words.Signed.{Signed}
+use Rattle.sat_text.specs.declared.lrat_line.Line.{Line}
+use Rattle.sat_text.specs.Words.{first_number, words_of, begins_with}
+use Rattle.sat_text.proofs.WordsLaws.{not_zero}
+use Rattle.sat_text.specs.LratLine.{line_of, up_to_zero, all_to_zero, addition, deletion, codes_of, code_of, has_code, plain_ids, IsHeld}
+use Rattle.sat_text.specs.Reading.{SameHead, ReadsLiterals, ReadsIds}
+
+-- numbers that were read, and the words that are left, with these before them
+abbrev Read : Type 0
+Read = List Signed × List (List ℕ)
+
+abbrev pub ahead : List Signed → Read → Read
+ahead passed read = (passed ++ read.0, read.1)
+
+-- a number that is not 0 goes before those up to the 0
+pub up_more : (words : List (List ℕ)) (told : Signed) → first_number words ≡ Some told → (told.number == 0) ≡ false → up_to_zero words ≡ option_map (ahead (told ∷ [])) (up_to_zero (drop 1 words))
+up_more [] told is apart = absurd (let never : None ≡ Some told = is in cc)
+up_more (word ∷ words) told is apart = rw (is, apart) refl
+
+-- a 0 ends them
+pub up_zero : (words : List (List ℕ)) (told : Signed) → first_number words ≡ Some told → (told.number == 0) ≡ true → up_to_zero words ≡ Some ([], drop 1 words)
+up_zero [] told is zero = absurd (let never : None ≡ Some told = is in cc)
+up_zero (word ∷ words) told is zero = rw (is, zero) refl
+
+-- where no number is next there are none
+pub up_none : (words : List (List ℕ)) → first_number words ≡ None → up_to_zero words ≡ None
+up_none [] none = refl
+up_none (word ∷ words) none = rw none refl
+
+-- what is read of words is these numbers, and then what is read of the words that are left
+abbrev pub Passes : List (List ℕ) → List (List ℕ) → List Signed → Type 0
+Passes all left passed = up_to_zero all ≡ option_map (ahead passed) (up_to_zero left)
+
+pub passes_none : (words : List (List ℕ)) → Passes words words []
+passes_none words = by (up_to_zero words)
+  where
+    by : (read : Option Read) → read ≡ option_map (ahead []) read
+    by None = refl
+    by (Some more) = refl
+
+onto : (passed : List Signed) (told : Signed) (read : Option Read) → option_map (ahead passed) (option_map (ahead (told ∷ [])) read) ≡ option_map (ahead (passed ++ told ∷ [])) read
+onto passed told None = refl
+onto passed told (Some more) = ap (λ (numbers : List Signed). Some (numbers, more.1)) (sym (append_assoc passed (told ∷ []) more.0))
+
+pub passes_more : (all left next : List (List ℕ)) (passed : List Signed) (told : Signed) → Passes all left passed → Some told ≡ first_number left → (told.number ≡ 0 → ⊥) → next ≡ drop 1 left → Passes all next (passed ++ told ∷ [])
+passes_more all left next passed told p is apart goes_on =
+    let more : Passes all (drop 1 left) (passed ++ told ∷ []) = p ∙ ap (option_map (ahead passed)) (up_more left told (sym is) (not_zero told.number apart)) ∙ onto passed told (up_to_zero (drop 1 left)) in
+    subst (λ (words : List (List ℕ)). Passes all words (passed ++ told ∷ [])) (sym goes_on) more
+
+pub passes_zero : (all left : List (List ℕ)) (passed : List Signed) (told : Signed) → Passes all left passed → Some told ≡ first_number left → (told.number == 0) ≡ true → up_to_zero all ≡ Some (passed, drop 1 left)
+passes_zero all left passed told p is zero = p ∙ ap (option_map (ahead passed)) (up_zero left told (sym is) zero) ∙ ap (λ (numbers : List Signed). Some (numbers, drop 1 left)) (append-nil passed)
+
+pub passes_end : (all left : List (List ℕ)) (passed : List Signed) → Passes all left passed → None ≡ first_number left → up_to_zero all ≡ None
+passes_end all left passed p none = p ∙ ap (option_map (ahead passed)) (up_none left (sym none))
+
+-- ---- what is held
+
+codes_more : (literals : List Signed) (told : Signed) → codes_of (literals ++ told ∷ []) ≡ codes_of literals ++ codes_of (told ∷ [])
+codes_more literals told = ap (map code_of) (filter-append has_code literals (told ∷ [])) ∙ map-append code_of (filter has_code literals) (filter has_code (told ∷ []))
+
+ids_more : (ids : List Signed) (told : Signed) → plain_ids (ids ++ told ∷ []) ≡ plain_ids ids ++ plain_ids (told ∷ [])
+ids_more ids told = ap (map (λ told. told.number)) (filter-append (λ told. not told.minus) ids (told ∷ [])) ∙ map-append (λ told. told.number) (filter (λ told. not told.minus) ids) (filter (λ told. not told.minus) (told ∷ []))
+
+any_more : (p : Signed → Bool) (a : Bool) (ids : List Signed) (told : Signed) → ((a || list_any p ids) || p told) ≡ (a || list_any p (ids ++ told ∷ []))
+any_more p true ids told = refl
+any_more p false [] told = or_same (p told)
+  where
+    or_same : (b : Bool) → b ≡ (b || false)
+    or_same true = refl
+    or_same false = refl
+any_more p false (id ∷ ids) told = by (any_more p false ids told) (p id) refl
+  where
+    by : (list_any p ids || p told) ≡ list_any p (ids ++ told ∷ []) → (b : Bool) → p id ≡ b → (list_any p (id ∷ ids) || p told) ≡ list_any p (id ∷ (ids ++ told ∷ []))
+    by more true e = rw e refl
+    by more false e = rw e more
+
+or_none : (a : Bool) → a ≡ (a || false)
+or_none true = refl
+or_none false = refl
+
+pub reads_none : (line : Line) → ReadsLiterals line line []
+reads_none line = record { head = record { id = refl; deletes = refl }; lits = sym (append-nil line.lits.items); hints = refl; foreign = or_none line.foreign }
+
+pub reads_no_ids : (line : Line) → ReadsIds line line []
+reads_no_ids line = record { head = record { id = refl; deletes = refl }; lits = refl; hints = sym (append-nil line.ids.items); foreign = or_none line.foreign }
+
+pub reads_more : (old middle new : Line) (literals : List Signed) (told : Signed) → ReadsLiterals old middle literals → SameHead middle new
+    → new.lits.items ≡ middle.lits.items ++ codes_of (told ∷ []) → new.ids.items ≡ middle.ids.items → new.foreign ≡ (middle.foreign || not (has_code told)) → ReadsLiterals old new (literals ++ told ∷ [])
+reads_more old middle new literals told r head lits ids foreign = record {
+  head = record { id = head.id ∙ r.head.id; deletes = head.deletes ∙ r.head.deletes };
+  lits = lits ∙ ap (λ (xs : List ℕ). xs ++ codes_of (told ∷ [])) r.lits ∙ append_assoc old.lits.items (codes_of literals) (codes_of (told ∷ [])) ∙ ap (λ (xs : List ℕ). old.lits.items ++ xs) (sym (codes_more literals told));
+  hints = ids ∙ r.hints;
+  foreign = foreign ∙ ap (λ (b : Bool). b || not (has_code told)) r.foreign ∙ any_more (λ told. not (has_code told)) old.foreign literals told;
+}
+
+pub reads_more_ids : (old middle new : Line) (hints : List Signed) (told : Signed) → ReadsIds old middle hints → SameHead middle new
+    → new.lits.items ≡ middle.lits.items → new.ids.items ≡ middle.ids.items ++ plain_ids (told ∷ []) → new.foreign ≡ (middle.foreign || told.minus) → ReadsIds old new (hints ++ told ∷ [])
+reads_more_ids old middle new hints told r head lits ids foreign = record {
+  head = record { id = head.id ∙ r.head.id; deletes = head.deletes ∙ r.head.deletes };
+  lits = lits ∙ r.lits;
+  hints = ids ∙ ap (λ (xs : List ℕ). xs ++ plain_ids (told ∷ [])) r.hints ∙ append_assoc old.ids.items (plain_ids hints) (plain_ids (told ∷ [])) ∙ ap (λ (xs : List ℕ). old.ids.items ++ xs) (sym (ids_more hints told));
+  foreign = foreign ∙ ap (λ (b : Bool). b || told.minus) r.foreign ∙ any_more (λ told. told.minus) old.foreign hints told;
+}
+
+-- ---- whole lines
+
+pub all_is : (all left : List (List ℕ)) (ids : List Signed) → up_to_zero all ≡ Some (ids, left) → (length left == 0) ≡ true → all_to_zero all ≡ Some ids
+all_is all left ids is zero = rw (is, zero) refl
+
+pub all_none : (all : List (List ℕ)) → up_to_zero all ≡ None → all_to_zero all ≡ None
+all_none all none = rw none refl
+
+pub all_longer : (all left : List (List ℕ)) (ids : List Signed) → up_to_zero all ≡ Some (ids, left) → (length left == 0) ≡ false → all_to_zero all ≡ None
+all_longer all left ids is more = rw (is, more) refl
+
+pub addition_is : (id : ℕ) (words left : List (List ℕ)) (literals hints : List Signed) → up_to_zero words ≡ Some (literals, left) → all_to_zero left ≡ Some hints
+    → addition id words ≡ Some (record { id = id; deletes = false; literals = literals; hints = hints })
+addition_is id words left literals hints is rest = rw (is, rest) refl
+
+pub addition_none : (id : ℕ) (words : List (List ℕ)) → up_to_zero words ≡ None → addition id words ≡ None
+addition_none id words none = rw none refl
+
+pub addition_cut : (id : ℕ) (words left : List (List ℕ)) (literals : List Signed) → up_to_zero words ≡ Some (literals, left) → all_to_zero left ≡ None → addition id words ≡ None
+addition_cut id words left literals is none = rw (is, none) refl
+
+pub deletion_is : (id : ℕ) (words : List (List ℕ)) (ids : List Signed) → all_to_zero words ≡ Some ids → list_any (λ told. told.minus) ids ≡ false
+    → deletion id words ≡ Some (record { id = id; deletes = true; literals = []; hints = ids })
+deletion_is id words ids is plain = rw (is, plain) refl
+
+pub deletion_minus : (id : ℕ) (words : List (List ℕ)) (ids : List Signed) → all_to_zero words ≡ Some ids → list_any (λ told. told.minus) ids ≡ true → deletion id words ≡ None
+deletion_minus id words ids is minus = rw (is, minus) refl
+
+pub deletion_none : (id : ℕ) (words : List (List ℕ)) → all_to_zero words ≡ None → deletion id words ≡ None
+deletion_none id words none = rw none refl
+
+-- a line that adds a clause is held, once its parts were read
+pub held_addition : (old middle new : Line) (literals hints : List Signed) → IsHeld (record { id = old.id; deletes = false; literals = []; hints = [] }) old → ReadsLiterals old middle literals → ReadsIds middle new hints
+    → IsHeld (record { id = old.id; deletes = false; literals = literals; hints = hints }) new
+held_addition old middle new literals hints held r s = record {
+  id = s.head.id ∙ r.head.id;
+  deletes = s.head.deletes ∙ (r.head.deletes ∙ held.deletes);
+  literals = s.lits ∙ (r.lits ∙ ap (λ (xs : List ℕ). xs ++ codes_of literals) held.literals);
+  hints = s.hints ∙ ap (λ (xs : List ℕ). xs ++ plain_ids hints) (r.hints ∙ held.hints);
+  foreign = s.foreign ∙ ap (λ (b : Bool). b || list_any (λ told. told.minus) hints) (r.foreign ∙ ap (λ (b : Bool). b || list_any (λ told. not (has_code told)) literals) held.foreign);
+}
+
+pub held_deletion : (old new : Line) (ids : List Signed) → IsHeld (record { id = old.id; deletes = true; literals = []; hints = [] }) old → ReadsIds old new ids
+    → IsHeld (record { id = old.id; deletes = true; literals = []; hints = ids }) new
+held_deletion old new ids held s = record {
+  id = s.head.id;
+  deletes = s.head.deletes ∙ held.deletes;
+  literals = s.lits ∙ held.literals;
+  hints = s.hints ∙ ap (λ (xs : List ℕ). xs ++ plain_ids ids) held.hints;
+  foreign = s.foreign ∙ ap (λ (b : Bool). b || list_any (λ told. told.minus) ids) held.foreign;
+}
+
+-- ---- the line of an id and words
+
+pub line_none : (bytes : List ℕ) → first_number (words_of bytes) ≡ None → line_of bytes ≡ None
+unfolding line_of
+line_none bytes none = rw none refl
+
+pub line_minus : (bytes : List ℕ) (id : Signed) → first_number (words_of bytes) ≡ Some id → id.minus ≡ true → line_of bytes ≡ None
+unfolding line_of
+line_minus bytes id is minus = rw (is, minus) refl
+
+pub line_deletes : (bytes : List ℕ) (id : Signed) → first_number (words_of bytes) ≡ Some id → id.minus ≡ false → begins_with (codes "d") (drop 1 (words_of bytes)) ≡ true → line_of bytes ≡ deletion id.number (drop 1 (drop 1 (words_of bytes)))
+unfolding line_of
+line_deletes bytes id is plain deletes = rw (is, plain, deletes) refl
+
+pub line_adds : (bytes : List ℕ) (id : Signed) → first_number (words_of bytes) ≡ Some id → id.minus ≡ false → begins_with (codes "d") (drop 1 (words_of bytes)) ≡ false → line_of bytes ≡ addition id.number (drop 1 (words_of bytes))
+unfolding line_of
+line_adds bytes id is plain adds = rw (is, plain, adds) refl
+
+-- where so much of them was read: the words, the id, and whether they delete clauses
+module _ (bytes : List ℕ) (all after rest : List (List ℕ)) (told : Option Signed) (id : Signed) (is : all ≡ words_of bytes) (read : told ≡ first_number all) (some : told ≡ Some id) (passed : after ≡ drop 1 all) where
+  spelled : first_number (words_of bytes) ≡ Some id
+  spelled = ap first_number (sym is) ∙ (sym read ∙ some)
+
+  left : after ≡ drop 1 (words_of bytes)
+  left = passed ∙ ap (drop 1) is
+
+  pub read_deletes : (deletes : Bool) (held : ℕ) → id.minus ≡ false → deletes ≡ begins_with (codes "d") after → rest ≡ (if deletes then drop 1 after else after) → deletes ≡ true → held ≡ id.number → line_of bytes ≡ deletion held rest
+  read_deletes deletes held plain begins goes_on on same =
+      line_deletes bytes id spelled plain (ap (begins_with (codes "d")) (sym left) ∙ (sym begins ∙ on))
+      ∙ (ap (deletion id.number) (sym (goes_on ∙ (ap (λ (b : Bool). if b then drop 1 after else after) on ∙ ap (drop 1) left))) ∙ ap (λ (n : ℕ). deletion n rest) (sym same))
+
+  pub read_adds : (deletes : Bool) (held : ℕ) → id.minus ≡ false → deletes ≡ begins_with (codes "d") after → rest ≡ (if deletes then drop 1 after else after) → deletes ≡ false → held ≡ id.number → line_of bytes ≡ addition held rest
+  read_adds deletes held plain begins goes_on off same =
+      line_adds bytes id spelled plain (ap (begins_with (codes "d")) (sym left) ∙ (sym begins ∙ off))
+      ∙ (ap (addition id.number) (sym (goes_on ∙ (ap (λ (b : Bool). if b then drop 1 after else after) off ∙ left))) ∙ ap (λ (n : ℕ). addition n rest) (sym same))
+
+-- where none is held to have a minus, none has
+pub plain_ids_of : (old new : Line) (ids : List Signed) → IsHeld (record { id = old.id; deletes = true; literals = []; hints = [] }) old → ReadsIds old new ids
+    → ◌≡◌ {A = Result Bool Memory} (Ok (not new.foreign)) (Ok true) → list_any (λ told. told.minus) ids ≡ false
+plain_ids_of old new ids held s e =
+    let plain : new.foreign ≡ false = not_true new.foreign (let same : not new.foreign ≡ true = cc in same) in
+    sym (s.foreign ∙ ap (λ (b : Bool). b || list_any (λ told. told.minus) ids) held.foreign) ∙ plain
+  where
+    not_true : (b : Bool) → not b ≡ true → b ≡ false
+    not_true true f = absurd (let never : false ≡ true = f in cc)
+    not_true false f = refl

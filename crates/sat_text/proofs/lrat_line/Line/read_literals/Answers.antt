@@ -1,0 +1,11 @@
+use Rattle.std.proofs.Common.{◌∷◌, [], ◌++◌}
+use Rattle.sat_text.proofs.LineLaws.{passes_more, reads_more}
+use Rattle.sat_text.proofs.lrat_line.Line.read_literals.Goals as goal
+
+pub loop-told-preserved : goal.loop-told-preserved
+loop-told-preserved c =
+    let inv = c.loop-told.invariant in (
+      inv.0 ++ c.in-Some.told ∷ [],
+      passes_more c.args.words.now c.loop-told.words _ inv.0 c.in-Some.told inv.1 c.in-Some.ensures.number c.if-told-eq0.false c.in-Some.ensures.passed,
+      reads_more c.args.self.now c.loop-told.self c.add_literal.new.self inv.0 c.in-Some.told inv.2 c.add_literal.ensures.head c.in_ok-add_literal.ensures.literals c.add_literal.ensures.ids c.in_ok-add_literal.ensures.foreign,
+    )

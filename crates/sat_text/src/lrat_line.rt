@@ -1,0 +1,158 @@
+//! A line of a proof in LRAT format, read.
+ghost use Rattle.std.specs.Prelude.{◌≡◌, ◌<◌, ◌++◌, ◌∷◌, ◌||◌, [], true, false, not, List, Some, None, Ok, map, OnOk};
+ghost use Rattle.std.specs.List.{list_any};
+ghost use Rattle.sat_text.specs.declared.words.Signed.{Signed};
+ghost use Rattle.sat_text.specs.LratLine.{LineView, IsHeld, line_of, up_to_zero, all_to_zero, addition, deletion, codes_of, has_code, plain_ids};
+ghost use Rattle.sat_text.specs.Reading.{ReadsLiterals, ReadsIds, SameHead};
+
+use crate::words::{Signed, Words};
+use clause_base::literal::Lit;
+use clause_base::memory::Memory;
+use std::alloc::Global;
+
+/// The largest number of a variable in a line, where they are counted from 1, that a literal has a code for.
+const MOST_VARIABLES: u64 = 2_147_483_648;
+
+/// Room for one line of a proof.
+#[derive(Drop)]
+pub struct Line {
+    /// The id that the line begins with.
+    pub id: u64,
+    /// Whether it deletes the clauses of the ids, and adds none.
+    pub deletes: bool,
+    /// The literals of the clause that it adds, as they stand.
+    pub lits: Vec<Lit>,
+    /// The hints, or the ids of what is deleted, as they stand.
+    pub ids: Vec<u64>,
+    /// Whether the clause has a literal without a code, or there is a hint with a minus, which asks for more than reverse unit
+    /// propagation. Neither is among the lists.
+    pub foreign: bool,
+}
+
+impl Line {
+    /// Room that takes no memory yet.
+    pub fn new(alloc: Global) -> Line {
+        Line {
+            id: 0,
+            deletes: false,
+            lits: Vec::new(alloc),
+            ids: Vec::new(alloc),
+            foreign: false,
+        }
+    }
+
+    // Holds an id and a kind, and no literals and hints.
+    fn begin(&mut self, id: u64, deletes: bool)
+        ensures { IsHeld (record { id = id; deletes = deletes; literals = []; hints = [] }) self.new }
+    {
+        self.id = id;
+        self.deletes = deletes;
+        self.lits.clear();
+        self.ids.clear();
+        self.foreign = false;
+    }
+
+    // Adds a literal, of a number that is not 0.
+    fn add_literal(&mut self, told: Signed) -> Result<(), Memory>
+        requires { 0 < told.number }
+        ensures literals { OnOk result (self.new.lits.items ≡ self.old.lits.items ++ codes_of (told ∷ [])) }
+        ensures foreign { OnOk result (self.new.foreign ≡ (self.old.foreign || not (has_code told))) }
+        ensures head { SameHead self.old self.new }
+        ensures ids { self.new.ids.items ≡ self.old.ids.items }
+    {
+        if MOST_VARIABLES < told.number {
+            self.foreign = true;
+            return Ok(());
+        }
+        self.lits
+            .push(Lit::of((told.number - 1) as u32, !told.minus))?;
+        Ok(())
+    }
+
+    // Adds a hint, or an id.
+    fn add_id(&mut self, told: Signed) -> Result<(), Memory>
+        ensures ids { OnOk result (self.new.ids.items ≡ self.old.ids.items ++ plain_ids (told ∷ [])) }
+        ensures foreign { OnOk result (self.new.foreign ≡ (self.old.foreign || told.minus)) }
+        ensures head { SameHead self.old self.new }
+        ensures literals { self.new.lits.items ≡ self.old.lits.items }
+    {
+        if told.minus {
+            self.foreign = true;
+            return Ok(());
+        }
+        self.ids.push(told.number)?;
+        Ok(())
+    }
+
+    // Reads literals up to 0.
+    fn read_literals(&mut self, words: &mut Words<'_>) -> Result<bool, Memory>
+        ensures read { result ≡ Ok true → (literals : List Signed) × (up_to_zero words.old ≡ Some (literals, words.new)) × ReadsLiterals self.old self.new literals }
+        ensures none { result ≡ Ok false → up_to_zero words.old ≡ None }
+    {
+        while let Some(told) = words.number() {
+            if told.number == 0 {
+                return Ok(true);
+            }
+            self.add_literal(told)?;
+        }
+        Ok(false)
+    }
+
+    // Reads hints or ids up to 0, which is the last word.
+    fn read_ids(&mut self, words: &mut Words<'_>) -> Result<bool, Memory>
+        ensures read { result ≡ Ok true → (ids : List Signed) × (all_to_zero words.old ≡ Some ids) × ReadsIds self.old self.new ids }
+        ensures none { result ≡ Ok false → all_to_zero words.old ≡ None }
+    {
+        while let Some(told) = words.number() {
+            if told.number == 0 {
+                return Ok(words.is_over());
+            }
+            self.add_id(told)?;
+        }
+        Ok(false)
+    }
+
+    // Reads what follows the id of a line that adds a clause.
+    fn read_addition(&mut self, words: &mut Words<'_>) -> Result<bool, Memory>
+        requires { IsHeld (record { id = self.old.id; deletes = false; literals = []; hints = [] }) self.old }
+        ensures line { result ≡ Ok true → (line : LineView) × (addition self.old.id words.old ≡ Some line) × IsHeld line self.new }
+        ensures none { result ≡ Ok false → addition self.old.id words.old ≡ None }
+    {
+        if !self.read_literals(words)? {
+            return Ok(false);
+        }
+        self.read_ids(words)
+    }
+
+    // Reads what follows the `d` of a line that deletes clauses.
+    fn read_deletion(&mut self, words: &mut Words<'_>) -> Result<bool, Memory>
+        requires { IsHeld (record { id = self.old.id; deletes = true; literals = []; hints = [] }) self.old }
+        ensures line { result ≡ Ok true → (line : LineView) × (deletion self.old.id words.old ≡ Some line) × IsHeld line self.new }
+        ensures none { result ≡ Ok false → deletion self.old.id words.old ≡ None }
+    {
+        if !self.read_ids(words)? {
+            return Ok(false);
+        }
+        Ok(!self.foreign)
+    }
+
+    /// Reads the bytes of a line, without its LF, and says whether they are one. Where they are not, what is held is not told.
+    pub fn read(&mut self, bytes: &[u8]) -> Result<bool, Memory>
+        ensures line { result ≡ Ok true → (line : LineView) × (line_of bytes.now ≡ Some line) × IsHeld line self.new }
+        ensures none { result ≡ Ok false → line_of bytes.now ≡ None }
+    {
+        let mut words = Words::of(bytes);
+        let Some(id) = words.number() else {
+            return Ok(false);
+        };
+        if id.minus {
+            return Ok(false);
+        }
+        self.begin(id.number, words.is_deletion());
+        if self.deletes {
+            self.read_deletion(&mut words)
+        } else {
+            self.read_addition(&mut words)
+        }
+    }
+}

@@ -1,2 +1,0 @@
-pub mod LineLaw
-pub mod Placed
