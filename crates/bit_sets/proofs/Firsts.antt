@@ -1,6 +1,7 @@
 -- A set that keeps its least member beside the others, as one list of words.
-use Rattle.std.proofs.Common.{arith, inl, inr, ◌≡◌, ◌≢◌, ◌==◌, ℕ, ◌*◌, ◌/◌, ◌%◌, ◌<◌, ◌≤◌, min, max, leb, ltb, List, length, get_or, set, Bool, true, false, not, ◌||◌, ◌&&◌, refl, sym, ap, ◌∙◌, Option, Some, None}
+use Rattle.std.proofs.Common.{arith, inl, inr, ◌≡◌, ◌≢◌, ◌==◌, ℕ, ◌*◌, ◌/◌, ◌%◌, ◌<◌, ◌≤◌, min, max, leb, ltb, List, length, get_or, set, Bool, true, false, not, ◌||◌, ◌&&◌, refl, sym, ap, ◌∙◌, eqb, Option, Some, None}
 use Rattle.std.proofs.lemmas.Bool.Decides.{nat_tests}
+use Rattle.std.specs.Option.{option_eq}
 use Rattle.std.specs.Prelude.{if◌then◌else◌}
 use Rattle.bit_sets.proofs.WordLaw.{set_same, set_other}
 use Rattle.bit_sets.proofs.Changed.{IsChanged, changed_bit}
@@ -93,6 +94,15 @@ first_without words words' n (Some m) i long ne has k = has_with words' m k (ome
     by true f true g = absurd (ne (ap (λ (x : ℕ). Some x) (sym (equal_of k m f) ∙ equal_of k n g)))
     by true f false g = refl
     by false f b g = refl
+
+-- what the test for the least member tells
+pub is_least : (o : Option ℕ) (n : ℕ) → true ≡ option_eq eqb o (Some n) → o ≡ Some n
+is_least None n e = absurd (let w : ⊥ = cc in w)
+is_least (Some m) n e = ap (λ (x : ℕ). Some x) (equal_of m n (sym e))
+
+pub not_least : (o : Option ℕ) (n : ℕ) → false ≡ option_eq eqb o (Some n) → o ≡ Some n → ⊥
+not_least None n e q = let w : ⊥ = cc in w
+not_least (Some m) n e q = let z : m ≡ n = cc in apart_of m n (sym e) z
 
 -- a number and the least one, the less of them first
 pub put_two : (a b lo hi k : ℕ) (h : Bool) → lo ≡ min a b → hi ≡ max a b → (k == lo || (k == hi || h)) ≡ (k == a || (k == b || h))

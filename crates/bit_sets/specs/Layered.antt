@@ -1,4 +1,4 @@
-use Rattle.std.specs.Prelude.{◌≡◌, ℕ, ◌*◌, ◌/◌, ◌%◌, ◌^◌, ◌<◌, ◌≤◌, ◌==◌, ◌&&◌, ◌||◌, List, length, slice_index, slice_set, Bool, true, false, not, Option, Some, None, bit_or, if◌then◌else◌}
+use Rattle.std.specs.Prelude.{◌≡◌, ℕ, ◌*◌, ◌/◌, ◌%◌, ◌^◌, ◌<◌, ◌≤◌, ◌==◌, ◌&&◌, ◌||◌, List, length, slice_index, slice_set, Bool, true, false, not, Option, Some, None, bit_or}
 pub use Rattle.bit_sets.specs.Words.{word_has, IsLeast}
 
 -- whether a list of words has a bit
@@ -50,7 +50,3 @@ pub record IsFirst (words : List ℕ) (least : Option ℕ) : Type 0 where
 abbrev pub IsTakenLeast : (ℕ → Bool) → (ℕ → Bool) → Option ℕ → Type 0
 IsTakenLeast p q None = ((k : ℕ) → p k ≡ false) × ((k : ℕ) → q k ≡ false)
 IsTakenLeast p q (Some n) = IsLeast p (Some n) × ((k : ℕ) → q k ≡ (not (k == n) && p k))
-
--- the number that a word keeps: all ones say that there is none
-abbrev pub number_in : ℕ → Option ℕ
-number_in word = if word == 18446744073709551615 then None else Some word

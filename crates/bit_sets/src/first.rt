@@ -4,7 +4,6 @@ ghost use Rattle.std.specs.Prelude.{◌≡◌, ℕ, ◌<◌, ◌≤◌, ◌*◌,
 ghost use Rattle.bit_sets.specs.Layered.{IsLeast, IsLeastNear, words_have, IsTakenLeast, IsPast, IsInside, bits_with};
 
 use crate::layer::Layer;
-use crate::least::Least;
 use crate::set::NumberSet;
 use std::alloc::{AllocError, Global};
 use std::marker::Model;
@@ -12,7 +11,7 @@ use std::marker::Model;
 /// The least number of a set, if there is one, and a layered set of the others.
 #[derive(Drop)]
 pub struct First<S: NumberSet> {
-    least: Least,
+    least: Option<u32>,
     others: Layer<S>,
 }
 
@@ -46,20 +45,18 @@ fn least_past<S: NumberSet>(set: &Layer<S>, past: u32) -> Option<u32>
 
 /// Takes the least number out of a set all of whose numbers are past one, if it has one.
 #[inline(always)]
-fn take_next<S: NumberSet>(set: &mut Layer<S>, past: u32) -> Least
+fn take_next<S: NumberSet>(set: &mut Layer<S>, past: u32) -> Option<u32>
     requires inside { past < 64 * length set.old.words }
     requires past { IsPast (words_have set.old.words) (Some past) }
     ensures taken { IsTakenLeast (words_have set.old.words) (words_have set.new.words) result }
     ensures inside { IsInside set.new.words result }
     ensures room { length set.new.words ≡ length set.old.words }
 {
-    match least_past(set, past) {
-        None => Least::none(),
-        Some(number) => {
-            set.remove(number);
-            Least::of(number)
-        }
+    let next = least_past(set, past);
+    if let Some(number) = next {
+        set.remove(number);
     }
+    next
 }
 
 /// Puts a number into a set beside its least member, which is kept apart. The result is the least of both.
@@ -85,17 +82,17 @@ impl<S: NumberSet> NumberSet for First<S> {
     ghost has = { λ s k. words_have s k };
 
     fn insert(&mut self, number: u32) {
-        match self.least.get() {
-            None => self.least = Least::of(number),
+        match self.least {
+            None => self.least = Some(number),
             Some(least) => {
                 let next = put_beside(least, &mut self.others, number);
-                self.least = Least::of(next);
+                self.least = Some(next);
             }
         }
     }
 
     fn remove(&mut self, number: u32) {
-        if self.least.keeps(number) {
+        if self.least == Some(number) {
             self.least = take_next(&mut self.others, number);
         } else {
             self.others.remove(number);
@@ -103,14 +100,14 @@ impl<S: NumberSet> NumberSet for First<S> {
     }
 
     fn least_near(&self, number: u32) -> Option<u32> {
-        match self.least.get() {
+        match self.least {
             Some(least) if least / 64 == number / 64 => Some(least),
             _ => None,
         }
     }
 
     fn least(&self) -> Option<u32> {
-        self.least.get()
+        self.least
     }
 
     fn room(&self) -> u64 {
@@ -131,7 +128,7 @@ impl<S: NumberSet> First<S> {
         ensures has { (n : ℕ) → IsLeast (words_have self.old) (Some n) → (k : ℕ) → words_have self.new k ≡ (not (k == n) && words_have self.old k) }
         ensures room { length self.new ≡ length self.old }
     {
-        if let Some(least) = self.least.get() {
+        if let Some(least) = self.least {
             self.least = take_next(&mut self.others, least);
         }
     }
@@ -142,7 +139,7 @@ impl<S: NumberSet> First<S> {
         ensures { (k : ℕ) → words_have result k ≡ false }
     {
         First {
-            least: Least::none(),
+            least: None,
             others: Layer::new(alloc, above),
         }
     }

@@ -9,7 +9,6 @@
 pub mod first;
 pub mod flat;
 pub mod layer;
-pub mod least;
 pub mod row;
 pub mod set;
 pub mod word;
