@@ -2,7 +2,7 @@ use Rattle.std.proofs.Common.{◌≡◌, ap, subst, ◌∙◌, Option, Some, IfO
 use Rattle.clause_base.specs.Derivation.{IsRefutation}
 use Rattle.cdcl_rules.specs.State.{State}
 use Rattle.rup_check.specs.Certificate.{Stamp, Certifies}
-use Rattle.ahead_run.specs.Seen.{IsMarked}
+use Rattle.ahead_run.specs.Seen.{IsMarkOf}
 use Rattle.ahead_run.proofs.Grants.{settled_state, state-seen}
 use Rattle.ahead_run.proofs.ahead.AheadRun.certify.Goals as goal
 
@@ -11,7 +11,7 @@ returns-in-Some-clause-certified c =
     let r = c.run.inside.run in
     let here = settled_state c.is_ahead-ahead.result r c.args.self c.run.inside.granted c.run.view_is c.requires c.is_ahead-ahead.ensures.behind c.is_ahead-ahead.ensures.caught_up in
     let given : c.run.inside.mark ≡ Some c.in-Some.mark = search rules in
-    let marked = subst (λ (m : Option Stamp). IsMarked r m) given c.run.invariant.marked in
+    let marked = subst (λ (m : Option Stamp). IsMarkOf r m) given c.run.invariant.marked in
     state-seen (λ f s. Certifies c.in-Some.mark f s.log) r c.args.self c.run.inside.granted c.run.view_is here marked.1
 
 pub returns-in-Some-clause-refutation : goal.returns-in-Some-clause-refutation
