@@ -16,6 +16,9 @@ impl Model for Lost {
     ghost also_owns = { λ _. ftrue };
 }
 
+// It owns nothing, so any thread may have it. Proved by hand, since it is a struct with `also_owns`.
+unsafe impl Send for Lost {}
+
 impl Lost {
     /// This run could not be made. Proved by hand, since only such a proof sets what no field holds.
     pub(crate) fn of() -> Lost

@@ -7,13 +7,13 @@ ghost use Rattle.horizon_run.specs.Run.{choice_in, moved_to, AddsUp, IsMoved, Is
 use crate::AheadRun;
 use crate::held::{Held, take};
 use clause_base::memory::Memory;
+use containers::let_go;
 use horizon_run::{HorizonRun, Unmade};
 use solver_pool::Resume;
 use std::alloc::Global;
 use std::marker::Model;
 
 /// A run that was started: one that is made, or one that is made by whoever advances it first.
-#[derive(Drop)]
 pub struct Started {
     pub(crate) held: Held,
     // How many conflicts its solver may be ahead once it is made.
@@ -32,6 +32,13 @@ impl Model for Started {
     ghost view = { λ s. run_in s.held };
 
     ghost invariant = { λ s. (s.horizon ≡ (run_in s.held).formula.name) × HasLaws s.held };
+}
+
+/// Letting one go is one call, in which its parts go: whoever holds one proves one step.
+impl Drop for Started {
+    fn drop(self) {
+        let_go!(self: Started { held, most, horizon, alloc });
+    }
 }
 
 impl Started {

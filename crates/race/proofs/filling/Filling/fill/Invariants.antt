@@ -1,10 +1,9 @@
 use Rattle.std.proofs.Common.{◌≡◌, ◌-◌, length}
-use Rattle.std.specs.List.{AllByRecursion}
-use Rattle.race.specs.Fresh.{IsFresh}
+use Rattle.race.specs.Filling.{racing_of}
 use Rattle.race.specs.Runs.{AreLow}
 use Rattle.race.specs.Starts.{filled}
 use Rattle.race.specs.Tied.{race_state, IsTied, KeepsBooks}
-use Rattle.race.proofs.racing.Racing.fill.Given as goal
+use Rattle.race.proofs.filling.Filling.fill.Given as goal
 
 abbrev pub ghost-startable : goal.ghost-startable
 ghost-startable g a = g.input
@@ -14,11 +13,10 @@ ghost-start g a = g.input
 
 abbrev pub invariant-loop-horizon : goal.invariant-loop-horizon
 invariant-loop-horizon g l = record {
-  tied : IsTied g.input l.self;
+  tied : IsTied g.input (racing_of l.self);
   low : AreLow l.self.runs.items;
-  filled : filled g.input (race_state l.self) ≡ filled g.input (race_state l.initial.self);
-  books : KeepsBooks l.initial.self l.self;
-  made : AllByRecursion (IsFresh g.F.StepForm l.form) l.made.items;
+  filled : filled g.input (race_state (racing_of l.self)) ≡ filled g.input (race_state (racing_of l.initial.self));
+  books : KeepsBooks (racing_of l.initial.self) (racing_of l.self);
 }
 
 abbrev pub decreases-loop-horizon : goal.decreases-loop-horizon

@@ -2,18 +2,18 @@ use Rattle.std.proofs.Common.{arith, rules, ◌≡◌, ◌≤◌, length, ◌∙
 use Rattle.horizon_rates.specs.declared.rates.Rates.{Rates}
 use Rattle.horizon_rates.specs.Ledger.{left_of}
 use Rattle.race.specs.Grants.{grants}
-use Rattle.race.specs.Runs.{Fits, conflicts_of}
+use Rattle.race.specs.Runs.{Fits}
 use Rattle.race.proofs.Advances.{fits-grants, length-horizons, sound-runs}
-use Rattle.race.proofs.racing.Racing.grant.Given.{Over}
-use Rattle.race.proofs.racing.Racing.grant.Goals.{In_ok-grants}
-use Rattle.race.proofs.racing.Racing.grant.Goals as goal
+use Rattle.race.proofs.filling.Filling.grant.Given.{Over}
+use Rattle.race.proofs.filling.Filling.grant.Goals.{In_ok-grants}
+use Rattle.race.proofs.filling.Filling.grant.Goals as goal
 
 -- the grants are those of the definition
 granted-by : (g : Over) (c : In_ok-grants g) → c.in_ok-grants.grants.items ≡ grants g.input.rates 0 (left_of c.args.self.ledger) (length c.args.self.runs.items)
 granted-by g c =
     let r = c.args.self in
     let same : c.count-count.result ≡ length r.runs.items = c.count-count.ensures.value ∙ (ap length c.requires.0.live ∙ length-horizons r.runs.items) in
-    c.in_ok-grants.ensures.grants ∙ (ap (grants c.args.rates.now 0 (left_of r.ledger)) same ∙ ap (λ (x : Rates). grants x 0 (left_of r.ledger) (length r.runs.items)) (sym c.requires.1.1))
+    c.in_ok-grants.ensures.grants ∙ (ap (grants c.args.rates.now 0 (left_of r.ledger)) same ∙ ap (λ (x : Rates). grants x 0 (left_of r.ledger) (length r.runs.items)) (sym c.requires.1.1.0))
 
 -- so many runs as the window holds
 few-runs : (g : Over) (c : In_ok-grants g) → length c.args.self.runs.items ≤ 16
@@ -33,7 +33,7 @@ returns-clause-granted g c = record {
   rounds = refl;
   ledger = c.in_ok-grants.ensures.aside;
   granted = search rules;
-  used = c.conflicts_of-used.ensures ∙ ap conflicts_of c.as_slice.ensures.value;
+  used = c.requires.1.1.1;
   sums = c.left-left.ensures.sums;
   sums_now = c.left.ensures.sums;
   few = few-runs g (goal.at.returns-clause-granted g c).In_ok-grants;
