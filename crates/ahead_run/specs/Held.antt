@@ -1,5 +1,5 @@
 -- The run that a place holds, however far it is.
-use Rattle.std.specs.Prelude.{◌≡◌, ℕ, true}
+use Rattle.std.specs.Prelude.{ℕ, true}
 use Rattle.horizon_run.specs.Run.{RunView, choice_in, moved_to, IsReached, Stays}
 use Rattle.ahead_run.specs.declared.held.Held.{Held}
 use Rattle.ahead_run.specs.declared.held.Held.TheVariants.{Unmade, Made, Lost}

@@ -1,5 +1,5 @@
 -- A race whose list of runs was moved is the same race.
-use Rattle.std.proofs.Common.{◌≡◌, ℕ, ◌≤◌, ◌∙◌, sym, ap, subst, map}
+use Rattle.std.proofs.Common.{◌≡◌, ◌≤◌, ◌∙◌, sym, ap, subst, map}
 use Rattle.std.specs.List.{AllByRecursion}
 use Rattle.horizon_rates.specs.Window.{WindowState}
 use Rattle.horizon_rates.specs.Ledger.{Account}
@@ -10,7 +10,7 @@ use Rattle.race.specs.Filling.{IsSame}
 use Rattle.race.specs.Lines.{AreLines}
 use Rattle.race.specs.Race.{last_started}
 use Rattle.race.specs.Runs.{live_run_of, horizon_of, IsRunOf}
-use Rattle.race.specs.State.{RaceState, spent}
+use Rattle.race.specs.State.{spent}
 use Rattle.race.specs.Tied.{race_state, IsTied, KeepsBooks}
 use Rattle.race.proofs.Starts.{same-race}
 

@@ -1,5 +1,5 @@
-use Rattle.std.proofs.Common.{◌≡◌, ap, sym, subst, ◌∙◌}
-use Rattle.horizon_run.specs.Run.{RunView, choice_in, AddsUp, IsReached, Stays}
+use Rattle.std.proofs.Common.{ap, sym, subst, ◌∙◌}
+use Rattle.horizon_run.specs.Run.{RunView, choice_in, AddsUp}
 use Rattle.ahead_run.specs.Held.{run_in, IsOfLaws}
 use Rattle.ahead_run.proofs.Begun.{on-any}
 use Rattle.ahead_run.proofs.started.Started.go_on.Goals as goal
