@@ -16,10 +16,10 @@ pub record IsBehind (r : RunView) (granted : ℕ) : Type 0 where
   pub few : granted ≤ 1073741824
 
 -- a mark, where there is one, is that of the log of a solver that refuted its formula
-abbrev pub IsMarked : RunView → Option Stamp → Type 0
-IsMarked r mark = IfSome mark (λ m. (r.state.standing ≡ Refuted) × Certifies m r.formula r.state.log)
+abbrev pub IsMarkOf : RunView → Option Stamp → Type 0
+IsMarkOf r mark = IfSome mark (λ m. (r.state.standing ≡ Refuted) × Certifies m r.formula r.state.log)
 
 -- a solver handled what was granted, and its mark is that of its log
 pub record IsAhead (r : RunView) (granted : ℕ) (mark : Option Stamp) : Type 0 where
   pub handled : granted ≤ r.granted
-  pub marked : IsMarked r mark
+  pub marked : IsMarkOf r mark

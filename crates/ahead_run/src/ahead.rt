@@ -2,7 +2,7 @@
 ghost use Rattle.std.specs.Prelude.{◌≡◌, ℕ, ◌+◌, ◌≤◌, true, false, OnOk, OnErr, IfSome};
 ghost use Rattle.cdcl_rules.specs.Run.{after};
 ghost use Rattle.horizon_run.specs.Run.{choice_in, moved_to, AddsUp, IsMoved, IsReached, Stays};
-ghost use Rattle.ahead_run.specs.Seen.{IsMarked};
+ghost use Rattle.ahead_run.specs.Seen.{IsMarkOf};
 
 use cdcl_rules::standing::Standing;
 use clause_base::memory::Memory;
@@ -48,7 +48,7 @@ impl Drop for AheadRun {
 
 /// The mark of a solver's log, where that refuted its formula. There is none where memory to check it is wanting.
 fn mark_of(alloc: Global, run: &HorizonRun) -> Option<Checked>
-    ensures { IsMarked run.now result }
+    ensures { IsMarkOf run.now result }
 {
     match run.standing() {
         Standing::Refuted => run.certify(alloc).ok(),
@@ -64,8 +64,8 @@ fn catch_up(
     target: u64,
 ) -> Result<(), Memory>
     requires few { target ≤ 1073741824 }
-    requires marked { IsMarked run.old mark.old }
-    ensures marked { IsMarked run.new mark.new }
+    requires marked { IsMarkOf run.old mark.old }
+    ensures marked { IsMarkOf run.new mark.new }
     ensures there { OnOk result (target ≤ run.new.granted) }
     ensures sane { OnOk result (run.old.spoilt ≡ false) }
     ensures sound { OnOk result (run.new.spoilt ≡ false) }

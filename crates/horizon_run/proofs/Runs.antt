@@ -67,7 +67,7 @@ seen old new k add m e formula means granted sane =
     λ i. record { formula = formula i; means = means i; state = there i; granted = granted i; spoilt = sane i }
 
 -- a run that goes on from where its origin has it
-resumes : (old new : RunView) (k n : ℕ) → AddsUp (choice_in old) old.formula → new ≡ moved_to old (old.granted + n)
+pub resumes : (old new : RunView) (k n : ℕ) → AddsUp (choice_in old) old.formula → new ≡ moved_to old (old.granted + n)
     → new.state ≡ after (choice_in old) old.state n → still old ≡ still (moved_by (origin old) k)
     → still new ≡ still (moved_by (origin old) (k + n))
 resumes old new k n add is went was =

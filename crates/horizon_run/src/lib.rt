@@ -14,5 +14,7 @@
 
 mod resume;
 mod run;
+mod unmade;
 
 pub use run::HorizonRun;
+pub use unmade::Unmade;

@@ -7,6 +7,7 @@ ghost use Rattle.rup_check.specs.Certificate.{Certifies};
 ghost use Rattle.step_encoding.specs.{Limits.planner_literals, Numbers.literals_of};
 ghost use Rattle.horizon_run.specs.Run.{choice_in, choice_of, moved_to, truths_of, IsMoved, IsNew, IsReached, AddsUp, Stays};
 
+use crate::unmade::Unmade;
 use cdcl_core::solver::Solver;
 use cdcl_rules::sound_runs::runs_are_sound;
 use cdcl_rules::standing::Standing;
@@ -83,19 +84,7 @@ impl HorizonRun {
         ensures formula { IfOk result (λ run. run.formula ≡ F.formula_of form.now n) }
         ensures choice { IfOk result (λ run. choice_in run ≡ choice_of (F.task form.now) (F.layout_of form.now n)) }
     {
-        let Ok(formula) = form.formula(alloc, n) else {
-            return Err(Memory);
-        };
-        // For the proof: the formula's clauses are lawful, and few.
-        let _clauses = formula.count();
-        // For the proof: the formula's literals are of its variables.
-        let _variables = formula.variables();
-        let chooser = GoalChooser::sharing(alloc, supporters, form.layout(n))?;
-        let mut solver = Solver::new(alloc, formula, chooser)?;
-        // For the proof: the state is sound, and has at most 1,073,741,824 conflicts.
-        let _sound = solver.conflicts();
-        solver.advance(0)?;
-        Ok(HorizonRun { solver, granted: 0 })
+        Unmade::sharing(alloc, supporters, form, n)?.made(alloc, None)
     }
 
     /// What holds of every run, wherever it is.

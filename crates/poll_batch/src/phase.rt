@@ -53,7 +53,7 @@ fn begin<F: StepForm>(
     ensures next { IfOk result (Follows F.StepForm form.now settings.now (Phase.Between racing)) }
     ensures large { IfErr result (TellsLarge (input_of F.StepForm form.now settings.now)) }
 {
-    let opening = racing.begin(alloc, task, form, settings, Vec::new(alloc))?;
+    let opening = racing.begin(alloc, task, form, settings)?;
     let Opening {
         begun,
         runs,

@@ -5,14 +5,14 @@ use Rattle.horizon_rates.specs.Quotas.{quota_at}
 use Rattle.horizon_run.specs.Run.{RunView}
 use Rattle.horizon_rates.specs.Horizons.{horizon_at}
 use Rattle.horizon_rates.specs.Window.{WindowState}
-use Rattle.horizon_rates.specs.Ledger.{left_of, SumsToBudget}
+use Rattle.horizon_rates.specs.Ledger.{Account, left_of, SumsToBudget}
 use Rattle.race.specs.Begun.{race_after, IsGranted}
 use Rattle.race.specs.Grants.{raised, grants, advanced}
 use Rattle.race.specs.Input.{RaceInput}
 use Rattle.race.specs.Lines.{IsLine}
 use Rattle.race.specs.Runs.{live_run_of, horizon_of, IsRunOf, AreLow, moved_all, conflicts_of, Fits}
 use Rattle.race.specs.State.{conflicts_used, spent}
-use Rattle.race.specs.Tied.{race_state, IsTied}
+use Rattle.race.specs.Tied.{race_state, IsTied, KeepsBooks}
 use Rattle.race_end.specs.Ends.{line_view, conflicts_in}
 use Rattle.race.specs.declared.begun.Begun.{Begun}
 use Rattle.race.specs.declared.racing.Racing.{Racing}
@@ -22,6 +22,16 @@ use Rattle.race.proofs.Starts.{same-race}
 pub used-runs : (rs : List RunView) → conflicts_used (map live_run_of rs) ≡ conflicts_of rs
 used-runs [] = refl
 used-runs (r ∷ rs) = ap (λ (n : ℕ). r.state.conflicts + n) (used-runs rs)
+
+-- races with the same ledger and the same lines have used as much
+pub used-same : (input : RaceInput) (old new : Racing) → IsTied input old → IsTied input new → KeepsBooks old new
+    → conflicts_of old.runs.items ≡ conflicts_of new.runs.items
+used-same input old new t s k =
+    let spent = ap (λ (a : Account). a.spent) k.ledger in
+    let lines = ap (λ ls. conflicts_in (map line_view ls.items)) k.lines in
+    let u = used-runs old.runs.items in
+    let v = used-runs new.runs.items in
+    omega (arith, spent, lines, t.spent, s.spent, u, v)
 
 pub length-runners : (rs : List RunView) → length (map live_run_of rs) ≡ length rs
 length-runners [] = refl

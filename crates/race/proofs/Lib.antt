@@ -11,3 +11,4 @@ pub mod Booked
 pub mod Told
 pub mod Comes
 pub mod Exhausted
+pub mod Fills

@@ -15,7 +15,3 @@ module _ {F : Type 0} (g : Ghosts F) (form : F) where
     pub new : IsNew run
     pub formula : run.formula ≡ g.formula_of form h
     pub choice : choice_in run ≡ choice_of (g.task form) (g.layout_of form h)
-
-  -- the run of its horizon before its first conflict
-  abbrev pub IsFresh : RunView → Type 0
-  IsFresh run = IsFreshOf run.formula.name run

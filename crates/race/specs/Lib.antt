@@ -10,5 +10,6 @@ pub mod Ends
 pub mod Runs
 pub mod Tied
 pub mod Fresh
+pub mod Filling
 pub mod Begun
 pub mod Exhausted

@@ -1,18 +1,17 @@
 //! A round whose runs are advanced elsewhere: by workers, or by polls.
 
 ghost use Rattle.std.specs.Prelude.{◌≡◌, ◌+◌, IfOk};
-ghost use Rattle.race.specs.Begun.{race_after, IsGranted, IsBegun, HasRun, Comes};
+ghost use Rattle.race.specs.Begun.{race_after, HasRun, Comes};
 ghost use Rattle.race.specs.Input.{RaceInput, input_of};
 ghost use Rattle.race.specs.Race.{judged};
-ghost use Rattle.race.specs.Runs.{AreLow, MayAdvance};
 ghost use Rattle.race.specs.Tied.{race_state, IsTied, Stands, SpendsMore, HasEnded};
 
-use crate::grant::{book, grant_all};
+use crate::grant::book;
 use crate::racing::{Racing, Step};
 use crate::work::conflicts_of;
 use ahead_run::AheadRun;
 use clause_base::memory::Memory;
-use horizon_rates::{Ledger, Rates, Settings, Window};
+use horizon_rates::{Ledger, Settings, Window};
 use race_end::Line;
 use std::alloc::Global;
 use step_encoding::form::StepForm;
@@ -45,46 +44,6 @@ pub struct Opening {
     pub runs: Vec<AheadRun>,
     /// How many conflicts each run is granted.
     pub grants: Vec<u32>,
-}
-
-impl Racing {
-    /// Sets aside what each run may use.
-    pub(crate) fn grant(self, alloc: Global, rates: &Rates) -> Result<Opening, Memory>
-        ghost input: { RaceInput }
-        requires tied { IsTied input self }
-        requires low { AreLow self.runs.items }
-        requires rates { input.rates ≡ rates.now }
-        ensures granted { IfOk result (λ o. IsGranted input self o.runs.items o.grants.items o.begun) }
-        ensures out { IfOk result (λ o. MayAdvance o.runs.items o.grants.items) }
-    {
-        let Racing {
-            window,
-            mut ledger,
-            last,
-            runs,
-            lines,
-            rounds,
-        } = self;
-        let count = window.count();
-        let left = ledger.left();
-        let grants = grant_all(alloc, &mut ledger, rates, count)?;
-        let granted = left - ledger.left();
-        let used = conflicts_of(runs.as_slice());
-        let begun = Begun {
-            window,
-            ledger,
-            last,
-            lines,
-            rounds,
-            granted,
-            used,
-        };
-        Ok(Opening {
-            begun,
-            runs,
-            grants,
-        })
-    }
 }
 
 impl Begun {

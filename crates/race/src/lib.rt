@@ -16,9 +16,9 @@
 //! own work, and [`Begun::end`]. [`race`] goes round by the same two.
 #![tactic(auto)]
 
-mod ahead;
 mod begun;
 mod error;
+mod filling;
 mod fresh;
 mod grant;
 mod line;

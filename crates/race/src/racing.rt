@@ -6,12 +6,13 @@ ghost use Rattle.race.specs.Found.{first_found, is_found, lines};
 ghost use Rattle.race.specs.Input.{RaceInput};
 ghost use Rattle.race.specs.Lines.{AreLines};
 ghost use Rattle.race.specs.Race.{settled, judged};
-ghost use Rattle.race.specs.Runs.{live_run_of, AreLow, AreUnfound};
+ghost use Rattle.race.specs.Runs.{conflicts_of, live_run_of, AreLow, AreUnfound};
 ghost use Rattle.race.specs.State.{start};
 ghost use Rattle.race.specs.Tied.{race_state, IsTied, IsBetween, Stands, HasEnded, Ends};
 ghost use Rattle.race_end.specs.Ends.{conflicts_in, line_view};
 
 use crate::line::{ended, open};
+use crate::work::conflicts_of;
 use ahead_run::AheadRun;
 use cdcl_rules::standing::Standing;
 use clause_base::memory::Memory;
@@ -106,6 +107,17 @@ impl Racing {
             lines: Vec::new(alloc),
             rounds: 0,
         }
+    }
+
+    /// How many conflicts its runs have handled together.
+    pub(crate) fn used(&self) -> u64
+        ghost input: { RaceInput }
+        requires { IsTied input self.now }
+        ensures { result ≡ conflicts_of self.now.runs.items }
+    {
+        // For the proof: there are no more runs than the window is wide.
+        let _count = self.window.count();
+        conflicts_of(self.runs.as_slice())
     }
 
     /// Closes the first live horizon, where some live one is refuted.

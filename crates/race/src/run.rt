@@ -11,8 +11,8 @@ ghost use Rattle.race.specs.Ends.{AreStepsOf, SumsWithin, WherePlanned, AreActio
 ghost use Rattle.race.specs.Begun.{Comes, TellsLarge};
 ghost use Rattle.race.specs.Tied.{IsBetween};
 
-use crate::begun::Opening;
 use crate::error::RaceError;
+use crate::filling::Opened;
 use crate::racing::{Racing, Step};
 use crate::work::advance_all;
 use goal_choice::Supporters;
@@ -26,7 +26,7 @@ use std::thread::Threads;
 use step_encoding::form::StepForm;
 
 impl Racing {
-    /// One round: it begins, workers advance its runs, and it ends.
+    /// One round: it begins, workers make the runs of its new horizons and advance all, and it ends.
     fn round<F: StepForm + Sync, G: Gate, H: Threads + Wait + Sync>(
         self,
         rt: &H,
@@ -43,13 +43,11 @@ impl Racing {
         ensures comes { IfOk result (Comes F.StepForm form.now settings.now (self.rounds + 1)) }
         ensures large { IfErr result (TellsLarge (input_of F.StepForm form.now settings.now)) }
     {
-        let made = self.made_ahead(rt, alloc, supporters, form, settings)?;
-        let opening = self.begin(alloc, task, form, settings, made)?;
-        let Opening {
+        let Opened {
             begun,
             runs,
             grants,
-        } = opening;
+        } = self.open(alloc, task, Some(supporters), form, settings)?;
         let most = begun.ahead(settings);
         let runs = advance_all(rt, alloc, runs, grants.as_slice(), most, settings, gate)?;
         Ok(begun.end(alloc, form, settings, runs)?)

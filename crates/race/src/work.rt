@@ -3,7 +3,7 @@ ghost use Rattle.std.specs.Prelude.{◌≡◌, ◌≤◌, false, length, map, If
 ghost use Rattle.std.specs.List.{AllByRecursion};
 ghost use Rattle.race.specs.Runs.{conflicts_of, jobs_at, run_at, moved_all, Fits, MayAdvance};
 
-use ahead_run::AheadRun;
+use ahead_run::{AheadRun, Started};
 use clause_base::memory::Memory;
 use horizon_rates::Settings;
 use solver_pool::{Gate, Job, Jobs, Resume, round};
@@ -23,13 +23,35 @@ pub(crate) fn conflicts_of(runs: &[AheadRun]) -> u64
     sum
 }
 
+/// These runs, as runs that were started.
+pub(crate) fn started_all(alloc: Global, runs: Vec<AheadRun>) -> Result<Vec<Started>, Memory>
+    ensures { IfOk result (λ out. out.items ≡ runs.items) }
+{
+    let mut started = Vec::new(alloc);
+    for run in runs {
+        started.push(Started::of(alloc, run))?;
+    }
+    Ok(started)
+}
+
+/// These runs, made.
+pub(crate) fn made_all(alloc: Global, runs: Vec<Started>) -> Result<Vec<AheadRun>, Memory>
+    ensures { IfOk result (λ out. out.items ≡ runs.items) }
+{
+    let mut made = Vec::new(alloc);
+    for run in runs {
+        made.push(run.made()?)?;
+    }
+    Ok(made)
+}
+
 /// A job for each run, up to what it was granted before and now.
 fn list_jobs(
     alloc: Global,
-    runs: Vec<AheadRun>,
+    runs: Vec<Started>,
     grants: &[u32],
     most: u32,
-) -> Result<Vec<Job<AheadRun>>, Memory>
+) -> Result<Vec<Job<Started>>, Memory>
     requires { Fits runs.items grants.now }
     ensures { IfOk result (λ jobs. jobs.items ≡ jobs_at runs.items grants.now) }
 {
@@ -42,6 +64,19 @@ fn list_jobs(
         }
     }
     Ok(jobs)
+}
+
+/// These jobs, of runs that are made.
+fn made_jobs(alloc: Global, jobs: Vec<Job<Started>>) -> Result<Vec<Job<AheadRun>>, Memory>
+    ensures { IfOk result (λ out. out.items ≡ jobs.items) }
+{
+    let mut made = Vec::new(alloc);
+    for job in jobs {
+        let Job { run, target } = job;
+        let run = run.made()?;
+        made.push(Job { run, target })?;
+    }
+    Ok(made)
 }
 
 /// A job for each run of a round, up to what it was granted before and now.
@@ -57,7 +92,8 @@ pub fn jobs_of(
     // With all of their targets granted, they are the runs advanced by their grants.
     ensures moved { IfOk result (λ jobs. map run_at jobs.items ≡ moved_all runs.items grants.now) }
 {
-    list_jobs(alloc, runs, grants, 0)
+    let started = started_all(alloc, runs)?;
+    made_jobs(alloc, list_jobs(alloc, started, grants, 0)?)
 }
 
 /// The run of a job, with all of its target granted: a settled one may have been granted less.
@@ -71,21 +107,21 @@ pub fn with_all_granted(job: Job<AheadRun>) -> Result<AheadRun, Memory>
 }
 
 /// The runs of jobs that workers brought to their targets.
-fn runs_of(alloc: Global, jobs: Vec<Job<AheadRun>>) -> Result<Vec<AheadRun>, Memory>
+fn runs_of(alloc: Global, jobs: Vec<Job<Started>>) -> Result<Vec<AheadRun>, Memory>
     ensures { IfOk result (λ runs. runs.items ≡ map run_at jobs.items) }
 {
     let mut runs = Vec::new(alloc);
-    for job in jobs {
+    for job in made_jobs(alloc, jobs)? {
         runs.push(with_all_granted(job)?)?;
     }
     Ok(runs)
 }
 
-/// Advances each run by its grant, by as many workers as the settings say, in turns of a slice.
+/// Advances each run by its grant, made first where it is not, by as many workers as the settings say, in turns of a slice.
 pub(crate) fn advance_all<G: Gate, H: Threads + Wait + Sync>(
     rt: &H,
     alloc: Global,
-    runs: Vec<AheadRun>,
+    runs: Vec<Started>,
     grants: &[u32],
     most: u32,
     settings: &Settings,

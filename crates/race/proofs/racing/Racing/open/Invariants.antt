@@ -1,5 +1,8 @@
 use Rattle.race.proofs.racing.Racing.open.Given as goal
 
+abbrev pub ghost-used : goal.ghost-used
+ghost-used g a = g.input
+
 abbrev pub ghost-fill : goal.ghost-fill
 ghost-fill g a = g.input
 
