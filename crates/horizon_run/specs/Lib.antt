@@ -1,2 +1,5 @@
 pub mod Run
 pub mod Resume
+pub mod Seen
+pub mod Held
+pub mod Started

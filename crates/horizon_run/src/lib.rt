@@ -10,11 +10,22 @@
 //!     Standing::Going => ..    // it has handled 50 conflicts
 //! }
 //! ```
+//!
+//! An [`AheadRun`] is such a run whose solver may be ahead of what was granted.
 #![tactic(auto)]
 
+mod ahead;
+mod ahead_resume;
+mod held;
+mod lost;
 mod resume;
 mod run;
+mod seen;
+mod started;
+mod turns;
 mod unmade;
 
+pub use ahead::AheadRun;
 pub use run::HorizonRun;
+pub use started::Started;
 pub use unmade::Unmade;

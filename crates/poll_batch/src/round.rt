@@ -6,11 +6,11 @@ ghost use Rattle.race.specs.Input.{input_of};
 ghost use Rattle.poll_batch.specs.{Numbers.IsBelow, OnePoll.PollsRun, Tied.IsWithin, Tied.numbers_of, Works.polls_of};
 
 use crate::work::Work;
-use ahead_run::AheadRun;
 use clause_base::memory::Memory;
 use futures::Future;
 use futures::task::{Context, Poll};
 use horizon_rates::Settings;
+use horizon_run::AheadRun;
 use race::{Begun, with_all_granted};
 use solver_pool::{Job, Resume};
 use step_encoding::form::StepForm;

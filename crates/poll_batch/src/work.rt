@@ -4,8 +4,8 @@ ghost use Rattle.std.specs.List.{AllByRecursion};
 ghost use Rattle.race.specs.Runs.{run_at};
 ghost use Rattle.poll_batch.specs.Works.{at_targets, AreAtWork};
 
-use ahead_run::AheadRun;
 use clause_base::memory::Memory;
+use horizon_run::AheadRun;
 use poll_run::PollRun;
 use solver_pool::{Job, Resume};
 use std::alloc::Global;

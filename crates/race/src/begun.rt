@@ -9,9 +9,9 @@ ghost use Rattle.race.specs.Tied.{race_state, IsTied, Stands, SpendsMore, HasEnd
 use crate::grant::book;
 use crate::racing::{Racing, Step};
 use crate::work::conflicts_of;
-use ahead_run::AheadRun;
 use clause_base::memory::Memory;
 use horizon_rates::{Ledger, Settings, Window};
+use horizon_run::AheadRun;
 use race_end::Line;
 use std::alloc::Global;
 use step_encoding::form::StepForm;

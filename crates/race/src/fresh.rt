@@ -4,11 +4,10 @@ ghost use Rattle.std.specs.Prelude.{◌≡◌, IfOk, IfSome};
 ghost use Rattle.goal_choice.specs.Means.{gathered_of};
 ghost use Rattle.race.specs.Fresh.{IsFreshOf, IsSmall};
 
-use ahead_run::Started;
 use clause_base::memory::Memory;
 use goal_choice::Supporters;
 use gt_core::task::Task;
-use horizon_run::Unmade;
+use horizon_run::{Started, Unmade};
 use std::alloc::Global;
 use step_encoding::form::StepForm;
 

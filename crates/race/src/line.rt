@@ -3,9 +3,9 @@ ghost use Rattle.std.specs.Prelude.{◌≡◌, IfOk};
 ghost use Rattle.race.specs.{Clears.passed_line, Found.open_line, Input.RaceInput, Lines.IsLine, Runs.live_run_of, Runs.IsRunOf};
 ghost use Rattle.race_end.specs.Ends.{line_view};
 
-use ahead_run::AheadRun;
 use cdcl_rules::standing::Standing;
 use clause_base::memory::Memory;
+use horizon_run::AheadRun;
 use race_end::{Line, LineEnd};
 use solver_pool::Resume;
 use std::alloc::Global;

@@ -13,10 +13,10 @@ ghost use Rattle.race_end.specs.Ends.{conflicts_in, line_view};
 
 use crate::line::{ended, open};
 use crate::work::conflicts_of;
-use ahead_run::AheadRun;
 use cdcl_rules::standing::Standing;
 use clause_base::memory::Memory;
 use horizon_rates::{Ledger, Settings, Window};
+use horizon_run::AheadRun;
 use race_end::{Line, Lines, RaceEnd};
 use solver_pool::Resume;
 use std::alloc::Global;

@@ -3,9 +3,9 @@ ghost use Rattle.std.specs.Prelude.{◌≡◌, ◌≤◌, false, length, map, If
 ghost use Rattle.std.specs.List.{AllByRecursion};
 ghost use Rattle.race.specs.Runs.{conflicts_of, jobs_at, run_at, moved_all, Fits, MayAdvance};
 
-use ahead_run::{AheadRun, Started};
 use clause_base::memory::Memory;
 use horizon_rates::Settings;
+use horizon_run::{AheadRun, Started};
 use solver_pool::{Gate, Job, Jobs, Resume, round};
 use std::alloc::Global;
 use std::sync::Wait;

@@ -4,13 +4,12 @@ ghost use Rattle.gt_core.specs.Published.{IsPublished};
 
 use action_order::order::Order;
 use action_order::publish::publish;
-use ahead_run::AheadRun;
 use gt_core::act::{Act, Acts};
 use gt_core::eff::{Eff, Effs};
 use gt_core::lits::{Bits, Lits};
 use gt_core::pairs::Pairs;
 use gt_core::task::Task;
-use horizon_run::HorizonRun;
+use horizon_run::{AheadRun, HorizonRun};
 use std::alloc::Global;
 use std::process::Abort;
 use step_encoding::exists::ExistsForm;

@@ -1,8 +1,8 @@
 //! What is seen of the run of a horizon of a lamp that is off.
 ghost use Rattle.std.specs.Prelude.{◌≡◌};
 
-use ahead_run::AheadRun;
 use cdcl_rules::standing::Standing;
+use horizon_run::AheadRun;
 use solver_pool::Resume;
 use std::alloc::Global;
 use std::process::Abort;

@@ -1,7 +1,7 @@
 use Rattle.std.proofs.Common.{arith, ◌≡◌, ◌∙◌, List, length, false, ap, sym, subst, map, Result, Ok, Err, IfOk, refl}
 use Rattle.std.specs.List.{All}
 use Rattle.solver_pool.specs.Job.{JobView, AreRising, entry_of}
-use Rattle.ahead_run.specs.contracts.turns.StartedResume.TheImpl.{ghosts}
+use Rattle.horizon_run.specs.contracts.turns.StartedResume.TheImpl.{ghosts}
 use Rattle.horizon_run.specs.Run.{RunView}
 use Rattle.race.specs.Runs.{jobs_at, run_at}
 use Rattle.race.proofs.Packed.{length-jobs, all_sound, all_rising, runs_back}

@@ -1,7 +1,0 @@
-use Rattle.std.proofs.Common.{ap, ◌∙◌}
-use Rattle.ahead_run.specs.Seen.{seen_of}
-use Rattle.ahead_run.proofs.Grants.{seen-now}
-use Rattle.ahead_run.proofs.ahead.AheadRun.of.Goals as goal
-
-pub returns : goal.returns
-returns c = ap (λ g. seen_of c.args.run g) c.granted-granted.ensures.value ∙ seen-now c.args.run c.standing-moved.ensures.moved

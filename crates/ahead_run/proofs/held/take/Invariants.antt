@@ -1,4 +1,0 @@
-use Rattle.ahead_run.proofs.held.take.Given as goal
-
-abbrev pub ghost-of : goal.ghost-of
-ghost-of g a = g.run

@@ -1,5 +1,0 @@
-use Rattle.ahead_run.specs.Held.{run_in}
-use Rattle.ahead_run.proofs.started.Started.go_on.Given as goal
-
-abbrev pub ghost-take : goal.ghost-take
-ghost-take a = run_in a.held.now
