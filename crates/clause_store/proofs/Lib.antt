@@ -4,7 +4,6 @@ pub mod Exacts
 pub mod Steps
 pub mod Whole
 pub mod Five
-pub mod Factors
 pub mod Shapes
 pub mod Linking
 pub mod ChainWalks

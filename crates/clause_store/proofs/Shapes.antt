@@ -4,7 +4,6 @@ use Rattle.std.specs.List.{flat_map, range_with_len}
 use Rattle.std.proofs.lemmas.List.{length-map}
 use Rattle.clause_base.specs.Repeats.{Repeats, step_part, time_part, repeated, variables_of}
 use Rattle.clause_store.specs.declared.shape.Shape.{Shape}
-use Rattle.clause_store.specs.Factor.{IsFactor}
 use Rattle.clause_store.specs.Lists.{AreNumbers, IsShape, clauses_of}
 use Rattle.clause_store.proofs.Blocks.{blocks_long}
 
@@ -29,8 +28,8 @@ same_clauses z v told step time r after cs n es et e =
     ∙ sym e
 
 -- what is worked out of them
-pub shape_made : (z : Shape) (v : ℕ) (told : List (List ℕ)) (r : Repeats) (after : List (List ℕ)) → AreNumbers z v told r after → v ≤ 2147483647 → variables_of r ≤ v → length told + (length (repeated r) + length after) ≤ 1073741824 → z.all_steps ≡ r.horizon * length r.step → z.before ≡ z.tolds + length (repeated r) → z.facts_begin ≡ 2 * (z.horizon * z.width) → z.facts_end ≡ z.facts_begin + 2 * (z.horizon * z.facts + z.facts) → IsFactor (2 * z.width) z.step_factor → IsFactor (2 * z.facts) z.fact_factor → IsShape z
-shape_made z v told r after n small fits few steps before begin end by_step by_fact = record {
+pub shape_made : (z : Shape) (v : ℕ) (told : List (List ℕ)) (r : Repeats) (after : List (List ℕ)) → AreNumbers z v told r after → v ≤ 2147483647 → variables_of r ≤ v → length told + (length (repeated r) + length after) ≤ 1073741824 → z.all_steps ≡ r.horizon * length r.step → z.before ≡ z.tolds + length (repeated r) → z.facts_begin ≡ 2 * (z.horizon * z.width) → z.facts_end ≡ z.facts_begin + 2 * (z.horizon * z.facts + z.facts) → IsShape z
+shape_made z v told r after n small fits few steps before begin end = record {
   all_steps = steps ∙ sym hs;
   variables = omega (arith, fits, hw, hf, n.facts, n.variables_is);
   small = omega (arith, small, n.variables_is);
@@ -38,8 +37,6 @@ shape_made z v told r after n small fits few steps before begin end by_step by_f
   before = omega (arith, before, long, repeated_long r);
   begin = begin;
   end = omega (arith, end, begin);
-  step_factor = by_step;
-  fact_factor = by_fact;
 }
   where
     hw : z.horizon * z.width ≡ r.horizon * r.width

@@ -3,7 +3,6 @@
 use Rattle.std.specs.Prelude.{◌≡◌, ℕ, ◌+◌, ◌-◌, ◌*◌, ◌/◌, ◌%◌, ◌<◌, ◌≤◌, nat_lt, if◌then◌else◌, List, [], ◌++◌, map, length, All}
 use Rattle.std.specs.List.{range_with_len}
 use Rattle.clause_base.specs.declared.pair.Pair.{Pair}
-use Rattle.clause_store.specs.Factor.{IsFactor}
 use Rattle.clause_store.specs.declared.list.Move.{Move}
 use Rattle.clause_store.specs.declared.shape.Shape.{Shape}
 use Rattle.clause_base.specs.Pairs.{pairs_of, pair_in}
@@ -76,8 +75,6 @@ pub record IsShape (z : Shape) : Type 0 where
   pub before : z.before ≡ after_all z
   pub begin : z.facts_begin ≡ facts_begin z
   pub end : z.facts_end ≡ facts_end z
-  pub step_factor : IsFactor (2 * z.width) z.step_factor
-  pub fact_factor : IsFactor (2 * z.facts) z.fact_factor
 
 -- the pairs of a table have codes and numbers below these
 pub record AreWithin (codes count : ℕ) (table : List (List Pair)) : Type 0 where

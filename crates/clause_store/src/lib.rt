@@ -6,7 +6,6 @@
 #![tactic(auto)]
 
 pub mod chains;
-mod factor;
 pub mod index;
 pub mod list;
 pub mod lists;

@@ -2,7 +2,6 @@
 ghost use Rattle.clause_store.specs.Lists.{IsShape};
 ghost use Rattle.clause_store.specs.Origin.{IsOrigin};
 
-use crate::factor::quotient;
 use crate::shape::Shape;
 
 /// Of which step or time a literal is, and its code there.
@@ -23,13 +22,13 @@ pub fn origin_of(shape: &Shape, code: u32) -> Origin
     ensures { IsOrigin shape.now code result }
 {
     if code < shape.facts_begin {
-        let step = quotient(code, shape.step_factor);
-        return Origin::Step(step, code - step * (2 * shape.width));
+        let codes = 2 * shape.width;
+        return Origin::Step(code / codes, code % codes);
     }
     if code >= shape.facts_end {
         return Origin::Other;
     }
+    let facts = 2 * shape.facts;
     let fact = code - shape.facts_begin;
-    let time = quotient(fact, shape.fact_factor);
-    Origin::Time(time, fact - time * (2 * shape.facts))
+    Origin::Time(fact / facts, fact % facts)
 }

@@ -3,7 +3,6 @@ ghost use Rattle.std.specs.Prelude.{◌≡◌, ◌+◌, ◌*◌, ◌≤◌, leng
 ghost use Rattle.clause_base.specs.Repeats.{repeated as repeated_clauses, variables_of};
 ghost use Rattle.clause_store.specs.Lists.{AreNumbers, IsShape};
 
-use crate::factor::factor_of;
 use clause_base::clause_list::ClauseList;
 use clause_base::repeated::Repeated;
 
@@ -18,10 +17,6 @@ pub struct Shape {
     pub width: u32,
     /// How many facts there are at a time.
     pub facts: u32,
-    /// The factor of the number of a step's literals.
-    pub step_factor: u64,
-    /// The factor of the number of a time's literals.
-    pub fact_factor: u64,
     /// How many clauses are told.
     pub tolds: u32,
     /// How many clauses a step has.
@@ -72,8 +67,6 @@ pub fn shape_of(variables: u32, told: &ClauseList, part: &Repeated, after: &Clau
         horizon,
         width,
         facts,
-        step_factor: factor_of(width),
-        fact_factor: factor_of(facts),
         tolds,
         steps,
         all_steps,
