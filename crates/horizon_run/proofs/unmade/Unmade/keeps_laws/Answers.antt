@@ -1,7 +1,7 @@
 use Rattle.std.proofs.Common.{refl, subst}
 use Rattle.goal_choice.specs.Choice.{choice_by}
 use Rattle.cdcl_rules.specs.Run.{start_of}
-use Rattle.cdcl_laws.specs.Sound.{IsSound}
+use Rattle.cdcl_rules.specs.Sound.{IsSound}
 use Rattle.horizon_run.specs.Run.{RunView, choice_in, IsNew, IsReached, AddsUp, Stays}
 use Rattle.horizon_run.proofs.Runs.{means_open, adds_up, stays, is_reached}
 use Rattle.horizon_run.proofs.unmade.Unmade.keeps_laws.Goals as goal
