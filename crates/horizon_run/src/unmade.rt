@@ -7,7 +7,7 @@ ghost use Rattle.horizon_run.specs.Run.{choice_in, choice_of, IsNew, IsReached, 
 
 use crate::run::HorizonRun;
 use cdcl_core::solver::Solver;
-use cdcl_rules::law::runs_are_sound;
+use cdcl_rules::sound_runs::runs_are_sound;
 use clause_base::formula::Formula;
 use clause_base::memory::Memory;
 use containers::let_go;
