@@ -130,6 +130,18 @@ impl AheadRun {
         run
     }
 
+    /// The run of its solver, once it is done with: the next run may use its tables.
+    pub fn into_run(self) -> HorizonRun {
+        let AheadRun {
+            run,
+            granted: _,
+            most: _,
+            mark: _,
+            alloc: _,
+        } = self;
+        run
+    }
+
     /// What holds of every run, wherever it is.
     pub(crate) fn keeps_laws(&self)
         ensures moved { self.now.spoilt ≡ false → IsMoved self.now }

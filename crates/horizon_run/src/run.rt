@@ -87,6 +87,12 @@ impl HorizonRun {
         Unmade::sharing(alloc, supporters, form, n)?.made(alloc, None)
     }
 
+    /// Its solver, whose tables the next run may use.
+    pub(crate) fn into_solver(self) -> Solver<GoalChooser> {
+        let HorizonRun { solver, granted: _ } = self;
+        solver
+    }
+
     /// What holds of every run, wherever it is.
     fn keeps_laws(&self)
         ensures moved { self.now.spoilt ≡ false → IsMoved self.now }

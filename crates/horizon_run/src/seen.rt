@@ -82,11 +82,21 @@ impl AheadRun {
         ensures refutation { IsRefutation self.formula.variables self.formula.clauses self.state.log }
     {
         let mut run = self;
+        run.take_mark(alloc)
+    }
+
+    /// The mark of a refuted run, as `certify` gives it. The run stays.
+    pub fn take_mark(&mut self, alloc: Global) -> Result<Checked, Memory>
+        requires { self.old.state.standing ≡ Standing.Refuted }
+        ensures certified { IfOk result (λ checked. Certifies checked self.old.formula self.old.state.log) }
+        ensures refutation { IsRefutation self.old.formula.variables self.old.formula.clauses self.old.state.log }
+        ensures same { self.new ≡ self.old }
+    {
         // For the proof: a run whose solver is ahead goes on, so this one's is not.
-        let _ahead = is_ahead(&run.run, run.granted);
-        match run.mark.take() {
+        let _ahead = is_ahead(&self.run, self.granted);
+        match self.mark.take() {
             Some(mark) => Ok(mark),
-            None => run.run.certify(alloc),
+            None => self.run.certify(alloc),
         }
     }
 }

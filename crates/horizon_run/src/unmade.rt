@@ -1,6 +1,8 @@
 //! The run of a horizon whose solver is not made yet. To make it takes time and the tables of a solver.
 
-ghost use Rattle.std.specs.Prelude.{◌≡◌, ℕ, ◌≤◌, IfOk};
+ghost use Rattle.std.specs.Prelude.{◌≡◌, ℕ, ◌≤◌, false, IfOk};
+ghost use Rattle.cdcl_rules.specs.Run.{start_of};
+ghost use Rattle.horizon_formula.specs.Layout.{variables};
 ghost use Rattle.goal_choice.specs.Means.{gathered_of};
 ghost use Rattle.step_encoding.specs.{Limits.planner_literals, Numbers.literals_of};
 ghost use Rattle.horizon_run.specs.Run.{choice_in, choice_of, IsNew, IsReached, Stays};
@@ -48,6 +50,22 @@ impl Drop for Unmade {
     }
 }
 
+/// The solver of a formula before any event, in the tables of a run that ended, where there is one.
+fn solver_of(
+    alloc: Global,
+    formula: Formula,
+    chooser: GoalChooser,
+    old: Option<HorizonRun>,
+) -> Result<Solver<GoalChooser>, Memory>
+    requires { formula.variables ≡ variables chooser.layout }
+    ensures start { IfOk result (λ s. s ≡ record { formula = formula; state = start_of formula; chooser = chooser; spoilt = false }) }
+{
+    match old {
+        Some(run) => run.into_solver().renewed(formula, chooser),
+        None => Solver::new(alloc, formula, chooser),
+    }
+}
+
 impl Unmade {
     /// The run of a horizon before its first conflict, over supporters that the runs of other horizons share.
     pub fn sharing<F: StepForm>(
@@ -90,13 +108,12 @@ impl Unmade {
         runs_are_sound();
     }
 
-    /// The run, made: its solver comes to its first conflict. A run that ended, if any, is let go.
+    /// The run, made: its solver comes to its first conflict. It uses the tables of a run that ended, where there is one.
     pub fn made(self, alloc: Global, old: Option<HorizonRun>) -> Result<HorizonRun, Memory>
         ensures { IfOk result (λ run. run ≡ self) }
     {
-        let _ = old;
         let Unmade { formula, chooser } = self;
-        let mut solver = Solver::new(alloc, formula, chooser)?;
+        let mut solver = solver_of(alloc, formula, chooser, old)?;
         // For the proof: the state is sound, and has at most 1,073,741,824 conflicts.
         let _sound = solver.conflicts();
         solver.advance(0)?;

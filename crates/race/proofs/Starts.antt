@@ -215,7 +215,3 @@ unfolding filled
 large input race h e =
     let end = fill input (input.rates.width - length race.live) race in
     large-at input race h (input.rates.width - length race.live) refl (stopped input end.live end.next end.closed h e)
-
--- what two starts keep
-pub keeps-next : {a b c : Racing} → KeepsBooks b c → KeepsBooks a b → KeepsBooks a c
-keeps-next k h = record { ledger = k.ledger ∙ h.ledger; lines = k.lines ∙ h.lines; rounds = k.rounds ∙ h.rounds }

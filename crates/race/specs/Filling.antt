@@ -5,7 +5,7 @@ use Rattle.race.specs.declared.racing.Racing.{Racing}
 
 -- the same race, by the views of its runs: whether they are made is no part of it
 abbrev pub racing_of : Filling → Racing
-racing_of f = record { window = f.window; ledger = f.ledger; last = f.last; runs = f.runs; lines = f.lines; rounds = f.rounds }
+racing_of f = record { window = f.window; ledger = f.ledger; last = f.last; runs = f.runs; lines = f.lines; rounds = f.rounds; ended = f.ended }
 
 -- two races are the same, wherever their lists of runs lie
 pub record IsSame (old new : Racing) : Type 0 where

@@ -59,7 +59,7 @@ impl Begun {
     }
 
     /// The race once its runs are back. What the round used is booked.
-    fn close(self, runs: Vec<AheadRun>) -> Racing
+    fn close(self, alloc: Global, runs: Vec<AheadRun>) -> Racing
         ghost input: { RaceInput }
         requires { HasRun input self runs.items }
         ensures tied { IsTied input result }
@@ -85,6 +85,7 @@ impl Begun {
             runs,
             lines,
             rounds: rounds + 1,
+            ended: Vec::new(alloc),
         }
     }
 
@@ -105,7 +106,7 @@ impl Begun {
         ensures spends { IfOk result (SpendsMore self.ledger.spent) }
         ensures rounds { IfOk result (HasEnded (self.rounds + 1)) }
     {
-        self.close(runs).judge(alloc, form, settings)
+        self.close(alloc, runs).judge(alloc, form, settings)
     }
 
     /// Ends a round, once each run is back and was advanced by its grant: the least found horizon has the plan, else the horizons

@@ -17,7 +17,7 @@ use clause_base::memory::Memory;
 use goal_choice::Supporters;
 use gt_core::task::Task;
 use horizon_rates::{Ledger, Rates, Window};
-use horizon_run::Started;
+use horizon_run::{HorizonRun, Started};
 use race_end::Line;
 use std::alloc::Global;
 use step_encoding::form::StepForm;
@@ -32,6 +32,7 @@ pub(crate) struct Filling {
     pub(crate) runs: Vec<Started>,
     pub(crate) lines: Vec<Line>,
     pub(crate) rounds: u64,
+    pub(crate) ended: Vec<HorizonRun>,
 }
 
 /// A round as it begins, with runs that need not be made.
@@ -54,6 +55,7 @@ impl Filling {
             runs,
             lines,
             rounds,
+            ended,
         } = racing;
         Ok(Filling {
             window,
@@ -62,6 +64,7 @@ impl Filling {
             runs: started_all(alloc, runs)?,
             lines,
             rounds,
+            ended,
         })
     }
 
@@ -136,7 +139,8 @@ impl Filling {
         ensures books { OnOk result (KeepsBooks (racing_of self.old) (racing_of self.new)) }
     {
         while let Some(horizon) = self.startable(form, rates) {
-            let run = fresh_run(alloc, task, supporters, form, horizon)?;
+            let old = self.ended.pop();
+            let run = fresh_run(alloc, task, supporters, form, horizon, old)?;
             self.start(form, horizon, run)?;
         }
         Ok(())
@@ -172,6 +176,8 @@ impl Filling {
             runs,
             lines,
             rounds,
+            // What no horizon that started uses is let go here.
+            ended: _,
         } = self;
         let count = window.count();
         let left = ledger.left();

@@ -7,18 +7,19 @@ ghost use Rattle.race.specs.Fresh.{IsFreshOf, IsSmall};
 use clause_base::memory::Memory;
 use goal_choice::Supporters;
 use gt_core::task::Task;
-use horizon_run::{Started, Unmade};
+use horizon_run::{HorizonRun, Started, Unmade};
 use std::alloc::Global;
 use step_encoding::form::StepForm;
 
 /// The run of a horizon before its first conflict, not made yet, over supporters that the runs of other horizons share, where
-/// there are such.
+/// there are such, and to be made in the tables of a run that ended, where there is one.
 pub(crate) fn fresh_run<F: StepForm>(
     alloc: Global,
     task: &Task,
     supporters: Option<&Supporters>,
     form: &F,
     horizon: u32,
+    old: Option<HorizonRun>,
 ) -> Result<Started, Memory>
     requires form_of { F.task form.now ≡ task.now }
     requires supporters { IfSome supporters (λ s. s.now ≡ gathered_of (F.task form.now)) }
@@ -32,5 +33,5 @@ pub(crate) fn fresh_run<F: StepForm>(
             Unmade::sharing(alloc, &own, form, horizon)?
         }
     };
-    Ok(Started::unmade(alloc, run, None))
+    Ok(Started::unmade(alloc, run, old))
 }

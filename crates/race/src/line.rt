@@ -22,16 +22,16 @@ fn line_of(run: &AheadRun, end: LineEnd) -> Line
 }
 
 /// The line of a refuted run, with the mark of its log.
-fn refuted(alloc: Global, run: AheadRun) -> Result<Line, Memory>
+fn refuted(alloc: Global, run: &mut AheadRun) -> Result<Line, Memory>
     ghost input: { RaceInput }
-    requires run { IsRunOf input run }
-    requires refuted { run.state.standing ≡ Standing.Refuted }
-    ensures told { IfOk result (λ line. line_view line ≡ open_line (live_run_of run)) }
+    requires run { IsRunOf input run.old }
+    requires refuted { run.old.state.standing ≡ Standing.Refuted }
+    ensures told { IfOk result (λ line. line_view line ≡ open_line (live_run_of run.old)) }
     ensures line { IfOk result (λ line. IsLine input line) }
 {
     let horizon = run.horizon();
     let conflicts = run.conflicts();
-    let end = LineEnd::Refuted(run.certify(alloc)?);
+    let end = LineEnd::Refuted(run.take_mark(alloc)?);
     Ok(Line {
         horizon,
         conflicts,
@@ -46,23 +46,24 @@ pub(crate) fn open(alloc: Global, run: AheadRun) -> Result<Line, Memory>
     ensures told { IfOk result (λ line. line_view line ≡ open_line (live_run_of run)) }
     ensures line { IfOk result (λ line. IsLine input line) }
 {
+    let mut run = run;
     match run.standing() {
-        Standing::Refuted => refuted(alloc, run),
+        Standing::Refuted => refuted(alloc, &mut run),
         Standing::Going => Ok(line_of(&run, LineEnd::Going)),
         Standing::Found => Ok(line_of(&run, LineEnd::Found)),
     }
 }
 
 /// The line of a run that ends here, since it is passed by a refuted one or refuted itself.
-pub(crate) fn ended(alloc: Global, run: AheadRun) -> Result<Line, Memory>
+pub(crate) fn ended(alloc: Global, run: &mut AheadRun) -> Result<Line, Memory>
     ghost input: { RaceInput }
-    requires run { IsRunOf input run }
-    requires unfound { run.state.standing ≡ Standing.Found → ⊥ }
-    ensures told { IfOk result (λ line. line_view line ≡ passed_line (live_run_of run)) }
+    requires run { IsRunOf input run.old }
+    requires unfound { run.old.state.standing ≡ Standing.Found → ⊥ }
+    ensures told { IfOk result (λ line. line_view line ≡ passed_line (live_run_of run.old)) }
     ensures line { IfOk result (λ line. IsLine input line) }
 {
     if !matches!(run.standing(), Standing::Refuted) {
-        return Ok(line_of(&run, LineEnd::Dropped));
+        return Ok(line_of(run, LineEnd::Dropped));
     }
     refuted(alloc, run)
 }

@@ -16,7 +16,7 @@ use crate::work::conflicts_of;
 use cdcl_rules::standing::Standing;
 use clause_base::memory::Memory;
 use horizon_rates::{Ledger, Settings, Window};
-use horizon_run::AheadRun;
+use horizon_run::{AheadRun, HorizonRun};
 use race_end::{Line, Lines, RaceEnd};
 use solver_pool::Resume;
 use std::alloc::Global;
@@ -37,6 +37,8 @@ pub struct Racing {
     pub lines: Vec<Line>,
     /// How many rounds ended.
     pub rounds: u64,
+    /// Runs that are done with since the last round, whose tables those of the next horizons may use.
+    pub ended: Vec<HorizonRun>,
 }
 
 /// What a round leads to.
@@ -106,6 +108,7 @@ impl Racing {
             runs: Vec::new(alloc),
             lines: Vec::new(alloc),
             rounds: 0,
+            ended: Vec::new(alloc),
         }
     }
 
@@ -134,11 +137,12 @@ impl Racing {
     {
         // For the proof: the live horizons are a window of the listed ones, so they rise.
         let _rising = self.window.count();
-        let run = self.runs.remove(0);
+        let mut run = self.runs.remove(0);
         let horizon = run.horizon();
         self.window.refute(horizon);
-        let line = ended(alloc, run)?;
+        let line = ended(alloc, &mut run)?;
         self.lines.push(line)?;
+        self.ended.push(run.into_run())?;
         Ok(())
     }
 
@@ -173,6 +177,7 @@ impl Racing {
             runs,
             mut lines,
             rounds: _,
+            ended: _,
         } = self;
         for run in runs {
             lines.push(open(alloc, run)?)?;

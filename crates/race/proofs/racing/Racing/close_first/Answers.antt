@@ -3,7 +3,7 @@ use Rattle.horizon_run.specs.Run.{RunView}
 use Rattle.race.specs.Runs.{AreUnfound, horizon_of}
 use Rattle.race.proofs.Clears.{IsClose, uncons, some-refuted, contains-first, live-close, tied-close, race-close, unfound-tail}
 use Rattle.race.proofs.racing.Racing.close_first.Given.{Over}
-use Rattle.race.proofs.racing.Racing.close_first.Goals.{In_ok-push}
+use Rattle.race.proofs.racing.Racing.close_first.Goals.{In_ok-push-2}
 use Rattle.race.proofs.racing.Racing.close_first.Goals as goal
 
 pub remove-run-requires : goal.remove-run-requires
@@ -21,7 +21,7 @@ refute-requires g c =
     subst (λ (xs : List ℕ). Contains xs c.horizon-horizon.result) (sym live) (subst (λ (h : ℕ). Contains (run.formula.name ∷ map horizon_of (drop 1 r.runs.items)) h) (sym c.horizon-horizon.ensures) (contains-first run.formula.name (map horizon_of (drop 1 r.runs.items))))
 
 -- the first run is closed
-closes : (g : Over) (c : In_ok-push g) → IsClose c.args.self.now (record c.args.self.now { window = c.refute.new.self; runs = c.remove-run.new.self; lines = c.push.new.self }) c.remove-run.result (drop 1 c.args.self.now.runs.items) c.in_ok-line.line
+closes : (g : Over) (c : In_ok-push-2 g) → IsClose c.args.self.now (record c.args.self.now { window = c.refute.new.self; runs = c.remove-run.new.self; lines = c.push.new.self; ended = c.push-2.new.self }) c.remove-run.result (drop 1 c.args.self.now.runs.items) c.in_ok-line.line
 closes g c =
     let r = c.args.self.now in
     record {
@@ -36,7 +36,7 @@ closes g c =
 
 pub returns-clause-tied : goal.returns-clause-tied
 returns-clause-tied g c =
-    tied-close g.input _ _ _ _ _ c.requires.0 c.count-rising.ensures.window.rising (closes g (goal.at.returns-clause-tied g c).In_ok-push) c.in_ok-line.ensures.line
+    tied-close g.input _ _ _ _ _ c.requires.0 c.count-rising.ensures.window.rising (closes g (goal.at.returns-clause-tied g c).In_ok-push-2) c.in_ok-line.ensures.line
 
 pub returns-clause-unfound : goal.returns-clause-unfound
 returns-clause-unfound g c =
@@ -46,7 +46,7 @@ returns-clause-unfound g c =
     subst AreUnfound (sym c.remove-run.ensures.items) (unfound-tail r.runs.items (drop 1 r.runs.items) run runs c.requires.1.0).1
 
 pub returns-clause-cleared : goal.returns-clause-cleared
-returns-clause-cleared g c = race-close _ _ _ _ _ (closes g (goal.at.returns-clause-cleared g c).In_ok-push) c.requires.1.1
+returns-clause-cleared g c = race-close _ _ _ _ _ (closes g (goal.at.returns-clause-cleared g c).In_ok-push-2) c.requires.1.1
 
 pub returns-clause-fewer : goal.returns-clause-fewer
 returns-clause-fewer g c =
