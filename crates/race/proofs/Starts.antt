@@ -20,7 +20,7 @@ use Rattle.race.specs.Lines.{IsLine}
 use Rattle.race.specs.Runs.{live_run_of, horizon_of, IsRunOf, IsLow, AreLow}
 use Rattle.race.specs.Starts.{fitting, fill, filled, started, too_large}
 use Rattle.race.specs.State.{RaceState, LiveRun, live_at, conflicts_used}
-use Rattle.race.specs.Tied.{race_state, IsTied, KeepsBooks}
+use Rattle.race.specs.Tied.{race_state, IsTied}
 use Rattle.race_end.specs.Ends.{line_view, LineView, conflicts_in}
 use Rattle.race.specs.declared.racing.Racing.{Racing}
 use Rattle.race_end.specs.declared.line.Line.{Line}
