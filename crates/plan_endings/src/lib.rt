@@ -7,7 +7,7 @@
 //! let ending = batch.end();                           // `; problem 1`, `; limit file problem`, with status 4
 //! ```
 //!
-//! Exit statuses, and the writing of the text of an ending.
+//! [`written::written`] puts the text of an ending into a sink and answers the exit status.
 //!
 //! ```text
 //! let status = written(alloc, ending, &mut sink);    // the ending's; or 6 where the sink failed, and 8 for want of memory

@@ -38,6 +38,7 @@ impl Driver for NoDriver {
         ensures cause { HasCause self.old self.new result }
         ensures never { IsErr result }
     {
+        // It is let go here, and not polled.
         let _gone = future;
         self.refused = self.refused.saturating_add(1);
         Err(DriveFailed)

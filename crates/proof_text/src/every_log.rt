@@ -12,6 +12,7 @@ fn row_is_small(numbers: &Numbers<'_>)
 {
     let mut rest = numbers.copy();
     while let Some(number) = rest.next() {
+        // For the proof: it is a u32.
         let _number = number;
     }
 }
@@ -27,6 +28,7 @@ fn entry_is_written(step: &Step<'_>)
             row_is_small(hints);
         }
         Step::Drop { number } => {
+            // For the proof: it is a u32.
             let _number = *number;
         }
     }
