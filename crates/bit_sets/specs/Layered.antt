@@ -41,7 +41,7 @@ abbrev pub IsInside : List ℕ → Option ℕ → Type 0
 IsInside words None = Unit {0}
 IsInside words (Some n) = n < 64 * length words
 
--- the least member of a set is kept beside the others
+-- the least member of a set is kept beside the others, all of which are past it: so it is told, and taken out, without a look at them
 pub record IsFirst (words : List ℕ) (least : Option ℕ) : Type 0 where
   pub past : IsPast (words_have words) least
   pub inside : IsInside words least

@@ -64,6 +64,7 @@ impl Model for Flat {
 
     ghost view = { λ s. s.words.items };
 
+    // Each number that it may have is one of 32 bits.
     ghost invariant = { λ s. length s.words.items ≤ 67108864 };
 }
 

@@ -22,6 +22,8 @@ impl<S: NumberSet> Model for Layer<S> {
 
     ghost view = { λ s. record { words = s.words.items; above = s.above } };
 
+    // The set above has the places of the words that are not 0, so its least member tells the word of the least here; and each number
+    // is one of 32 bits.
     ghost invariant = { λ s. (length s.words.items ≤ S.room s.above) × (length s.words.items ≤ 67108864) × IsAbove s.words.items (S.has s.above) };
 }
 

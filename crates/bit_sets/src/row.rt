@@ -21,6 +21,7 @@ impl Model for BitRow {
 
     ghost view = { λ r. r.words.items };
 
+    // Each number that it may have is one of 32 bits.
     ghost invariant = { λ r. length r.words.items ≤ 67108864 };
 }
 

@@ -58,8 +58,9 @@ abbrev pub AreKept : List Bool → List ℕ → Type 0
 AreKept kept [] = Unit {0}
 AreKept kept (n ∷ numbers) = (is_kept kept n ≡ true) × AreKept (slice_set kept n false) numbers
 
--- what a search keeps: a sound state, a trail over the formula's variables and what it needs for a conflict unless it is spoilt; as
--- long as it is going its clauses are watched on its trail
+-- what a search keeps: a sound state, so that its log is a derivation whenever it stops; a trail over the formula's variables and what
+-- it needs for a conflict unless it is spoilt, so that no conflict takes room for it; and as long as it is going its clauses are watched
+-- on its trail, so that what the propagator asks for is the next event by the rules
 pub record IsKept (clauses : ClausesView) (propagator : PropagatorView) (analysis : AnalysisView) (standing : Standing) (spoilt : Bool) : Type 0 where
   pub over : propagator.variables ≡ clauses.formula.variables
   pub ready : spoilt ≡ false → IsReady clauses.formula.variables analysis

@@ -3,7 +3,7 @@ use Rattle.std.specs.Prelude.{◌≡◌, ℕ, ◌≤◌, List, length, take}
 use Rattle.cdcl_rules.specs.declared.trail.Assigned.{Assigned}
 use Rattle.cdcl_trail.specs.Assignment.{literals}
 
--- up to a length the literals that were told are those on a trail
+-- up to a length the literals that were told are those on a trail, so that what changed from there on alone is told before a choice
 pub record IsToldUpTo (knows : List ℕ → Type 0) (kept : ℕ) (trail : List Assigned) : Type 0 where
   pub told : List ℕ
   pub known : knows told

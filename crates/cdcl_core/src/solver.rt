@@ -43,6 +43,7 @@ impl<C: Chooser> Model for Solver<C> {
 
     ghost view = { λ s. record { formula = s.search.formula; state = s.search.state; chooser = s.chooser; spoilt = s.search.spoilt } };
 
+    // The chooser knows the formula's variables, so it may be asked at any time; and what it was told up to a length is on the trail.
     ghost invariant = { λ s.
         C.fits s.chooser s.search.formula.variables
         × (s.search.spoilt ≡ false → IsToldUpTo (C.knows s.chooser s.told) s.kept s.search.state.trail) };

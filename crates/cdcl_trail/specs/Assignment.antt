@@ -11,7 +11,8 @@ pub record AssignmentView : Type 0 where
 abbrev pub literals : List Assigned → List ℕ
 literals entries = map (λ a. a.literal) entries
 
--- the tables of an assignment: for each literal whether it is true, and for each variable its position on the trail
+-- the tables of an assignment: for each literal whether it is true, and for each variable its position on the trail, so that either is
+-- known by one look without going along the trail
 pub record IsAssignment (n : ℕ) (trail : List ℕ) (on : List Bool) (positions : List ℕ) : Type 0 where
   pub small : n ≤ 2147483647
   pub short : length trail ≤ n

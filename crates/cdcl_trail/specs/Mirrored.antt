@@ -46,7 +46,8 @@ IsStart entries start = (p : ℕ) → p < length entries → nat_le start p ≡ 
 abbrev pub AreApart : List ℕ → Type 0
 AreApart trail = (i j : ℕ) → i < length trail → j < length trail → slice_index trail i ≡ slice_index trail j → i ≡ j
 
--- what is asked of the tables by which entries are found from their literals
+-- what is asked of the tables by which entries are found from their literals: so the walk from a conflict finds the reason of a literal,
+-- and whether it is of the current level, without going along the trail
 pub record IsLookedUp (n : ℕ) (entries : List Assigned) (positions : List ℕ) (start : ℕ) : Type 0 where
   pub placed : IsPlaced n (literals entries) positions
   pub start_is : IsStart entries start

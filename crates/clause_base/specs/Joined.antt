@@ -7,7 +7,8 @@ use Rattle.clause_base.specs.Repeats.{Repeats, repeated, variables_of}
 abbrev pub joined : List (List ℕ) → Repeats → List (List ℕ) → List (List ℕ)
 joined told part after = told ++ (repeated part ++ after)
 
--- there are not too many variables and clauses, and those of the parts are among the variables
+-- there are not too many variables and clauses, and those of the parts are among the variables: so codes and numbers have 32 bits, and
+-- a table by variable has a place for each literal that is read
 pub record IsJoined (variables : ℕ) (told : List (List ℕ)) (part : Repeats) (after : List (List ℕ)) : Type 0 where
   pub small : variables ≤ 2147483647
   pub few : length (joined told part after) ≤ 1073741824

@@ -10,7 +10,7 @@ abbrev pub clauses_held : Held → List (List ℕ)
 clauses_held (Own list) = list
 clauses_held (Shared list pairs) = arc_value list
 
--- beside a shared list stands the table of its pairs
+-- beside a shared list stands the table of its pairs, so that a formula's index is made of it without a look at the clauses
 abbrev pub HasTable : Held → Type 0
 HasTable (Own list) = Unit {0}
 HasTable (Shared list pairs) = (x : ℕ) → pairs_of (arc_value pairs) x ≡ pairs_from 0 x (arc_value list)

@@ -5,6 +5,6 @@ use Rattle.std.specs.Prelude.{ℕ, ◌+◌, ◌≤◌, nat_lt, if◌then◌else�
 abbrev pub shifted : (limit low high : ℕ) → ℕ → ℕ
 shifted limit low high l = if nat_lt l limit then low + l else high + l
 
--- a code in 32 bits stays one
+-- a code in 32 bits stays one, so that a literal is moved as it is read without a test
 abbrev pub StaysCode : (limit low high : ℕ) → ℕ → Type 0
 StaysCode limit low high l = l ≤ 4294967295 → shifted limit low high l ≤ 4294967295

@@ -61,7 +61,7 @@ abbrev pub AreSmall : List Entry → Type 0
 AreSmall [] = Unit {0}
 AreSmall (entry ∷ log) = IsSmall entry × AreSmall log
 
--- so many entries, which learn these clauses, stand in these bytes
+-- so many entries, which learn these clauses, stand in these bytes: so a reader finds what was put in, and tests nothing of its form
 pub record IsHeld (log : List Entry) (count : ℕ) (learned : List (List ℕ)) (bytes : List ℕ) : Type 0 where
   pub count_is : count ≡ length log
   pub learned_are : learned ≡ clauses_of log

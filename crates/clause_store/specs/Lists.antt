@@ -66,7 +66,8 @@ index_of z told step time after = map (all_lists z told step time after) (range_
 abbrev pub clauses_of : Shape → (told step time after : List (List ℕ)) → List (List ℕ)
 clauses_of z told step time after = told ++ (repeated (record { horizon = z.horizon; width = z.width; facts = z.facts; step = step; time = time }) ++ after)
 
--- the variables of all steps and times are among all, and the clauses have numbers of 30 bits
+-- the variables of all steps and times are among all, and the clauses have numbers of 30 bits, so that what is worked out of them has
+-- 32 bits; what is asked of every literal (`all_steps`, `before`, `begin`, `end`) is worked out once
 pub record IsShape (z : Shape) : Type 0 where
   pub variables : z.horizon * z.width + (z.horizon + 1) * z.facts ≤ z.variables
   pub small : z.variables ≤ 2147483647
@@ -102,7 +103,7 @@ pub record AreParts (z : Shape) (told step time after : List (List ℕ)) : Type 
   pub time_below : All (All (λ l. l < 2 * z.facts)) time
   pub below : All (All (λ l. l < 2 * z.variables)) (clauses_of z told step time after)
 
--- the tables of a formula's parts
+-- the tables of a formula's parts: their pairs are of the variables and clauses of each part, so that they are moved without a test
 pub record AreTables (z : Shape) (told step time after : List (List Pair)) : Type 0 where
   pub told_within : AreWithin (2 * z.variables) z.tolds told
   pub step_within : AreWithin (2 * (z.width + 2 * z.facts)) z.steps step

@@ -38,6 +38,7 @@ impl Model for Clauses {
 
     ghost view = { λ c. record { formula = c.formula; log = c.log; kept = kept_of (length c.formula.clauses) c.log } };
 
+    // The number of a learned clause has 32 bits; a restart finds what it may drop in the list, without a look at all clauses.
     ghost invariant = { λ c. (length (clauses_of c.log) ≤ 1073741824) × (c.longs.items ≡ long_ones (length c.formula.clauses) (c.formula.clauses ++ clauses_of c.log) (kept_of (length c.formula.clauses) c.log)) };
 }
 

@@ -23,7 +23,7 @@ no_literals facts = record { facts = facts; members = [] }
 abbrev pub members_from : ℕ → List ℕ → List ℕ
 members_from low ls = filter (λ l. nat_le low l) ls
 
--- a row of bits has room for the numbers below one
+-- a row of bits has room for the numbers below one and has no others: so a walk puts a literal in without memory, and asks without a test
 pub record IsOver (end : ℕ) (row : List ℕ) : Type 0 where
   pub few : end ≤ 4096
   pub room : end ≤ room row

@@ -18,7 +18,8 @@ pub record ToldView : Type 0 where
 abbrev pub walk_of : ToldView → WalkView
 walk_of v = record { means = v.means; seen = told_values (variables v.means.layout) v.told; wanted = v.wanted; low = v.low }
 
--- that is what is kept; the literals are of the variables, and there is room for one of each; the set to write over is of the facts
+-- that is what is kept, so that a choice goes on from it; the literals are of the variables, and there is room for one of each, so that
+-- to tell one takes no memory; the set to write over is of the facts
 pub record IsTold (v : ToldView) (facts capacity : ℕ) : Type 0 where
   pub walk : IsWalk (walk_of v)
   pub below : All (λ l. l / 2 < variables v.means.layout) v.told

@@ -15,7 +15,8 @@ flags_in t = slot_flags t.kept.items t.slots.items
 abbrev pub pending_in : Tables → List ℕ → ℕ → Bool
 pending_in t trail = is_pending_on t.store t.kept.items trail
 
--- what holds of the tables, where the literals are below a number
+-- what holds of the tables, where the literals are below a number: so a clause, its flag and its slots are found by its number, and codes
+-- and numbers have 32 bits
 pub record AreTables (t : Tables) (codes : ℕ) : Type 0 where
   pub limit : codes ≤ 4294967294
   pub fit : IsFit t.store codes

@@ -48,7 +48,8 @@ pub record IsReal (clauses : List (List ℕ)) (node : ℕ) : Type 0 where
 abbrev pub IsNodeKept : List Bool → ℕ → Type 0
 IsNodeKept kept node = slice_index_or kept (node / 2) false ≡ true
 
--- each node of a kept clause is on the chain of its watched literal, and the two watched literals of a clause are two of its own
+-- each node of a kept clause is on the chain of its watched literal, and the two watched literals of a clause are two of its own: so a
+-- clause is met wherever one of these becomes false
 pub record IsAtRest (clauses : List (List ℕ)) (froms : List ℕ) (heads : List ℕ) (nodes : List Node) (limit : ℕ) (kept : List Bool) : Type 0 where
   pub on : ℕ → Option ℕ
   pub linked : IsLinked heads nodes on

@@ -5,7 +5,7 @@ use Rattle.std.specs.Prelude.{◌≡◌, ℕ, ◌<◌, ◌⊎◌, List, [], ◌�
 abbrev pub IsSlot : ℕ → ℕ → Type 0
 IsSlot count slot = (slot < count) ⊎ (slot ≡ 255)
 
--- each number's clause stands at a place or nowhere
+-- each number's clause stands at a place or nowhere, so that a clause is found by one look
 abbrev pub AreSlots : ℕ → List ℕ → Type 0
 AreSlots count [] = Unit {0}
 AreSlots count (slot ∷ slots) = IsSlot count slot × AreSlots count slots

@@ -6,7 +6,7 @@ abbrev pub joined : {A : Type 0} → List (List A) → List A
 joined [] = []
 joined (page ∷ pages) = page ++ joined pages
 
--- each page but the last has 128 items, and the last has no more
+-- each page but the last has 128 items, and the last has no more: so a number tells its page and its place there by a division
 abbrev pub AreFull : {A : Type 0} → List (List A) → Type 0
 AreFull [] = Unit {0}
 AreFull (page ∷ []) = length page ≤ 128

@@ -25,7 +25,8 @@ pub record HasTaken (checker : CheckerView) (log : List Entry) : Type 0 where
 abbrev pub NamesBelow : ℕ → List (List ℕ) → List Bool → List (Option (List ℕ)) → Type 0
 NamesBelow variables clauses dropped learned = (number : ℕ) → IfSome (kept_named clauses dropped learned number) (HasVariablesBelow variables)
 
--- a checker has taken some entries; if it is refuted, its formula has no satisfying assignment
+-- a checker has taken some entries; if it is refuted, its formula has no satisfying assignment: so a verdict is true of each checker,
+-- whoever handed it the entries
 pub record IsSound (checker : CheckerView) : Type 0 where
   pub log : List Entry
   pub taken : HasTaken checker log

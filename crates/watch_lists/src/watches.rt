@@ -41,7 +41,8 @@ impl Model for Watches {
 
     ghost view = { λ w. without_reasons w.propagator };
 
-    // What is asked first is known, and so is what was pending at each length.
+    // What is asked first is known, so that it is told without a look at any clause; and so is what was pending at each length, so
+    // that few clauses are looked at where the trail is taken back to it.
     ghost invariant = { λ w. (w.first ≡ first_asked w.propagator.clauses w.propagator.kept (has_literal (literals w.propagator.entries))) × AreKnown w.propagator w.known.items };
 }
 
