@@ -12,11 +12,10 @@ use Rattle.cdcl_rules.specs.declared.trail.Assigned.{Assigned}
 use Rattle.cdcl_rules.specs.State.{State, clause_at, is_on, values_of}
 use Rattle.cdcl_rules.specs.Trail.{AllFalse}
 use Rattle.cdcl_rules.specs.Pending.{open_ones, first_pending}
-use Rattle.cdcl_rules.specs.Event.{asked, chosen_event, event_of}
+use Rattle.cdcl_rules.specs.Event.{asked, chosen_event}
 use Rattle.cdcl_rules.specs.Learn.{learned, Learned}
 use Rattle.cdcl_rules.specs.Open.{IsOpenEvent}
 use Rattle.cdcl_rules.specs.Run.{start_of, apply, after_conflict, is_going}
-use Rattle.clause_base.specs.Choice.{Known}
 use Rattle.cdcl_rules.proofs.Members.{at_clause}
 use Rattle.cdcl_rules.proofs.Pending.{Asks, asks}
 use Rattle.cdcl_rules.specs.Sound.{IsSound}
@@ -29,7 +28,7 @@ use Rattle.cdcl_trail.specs.Mirrored.{TrailView}
 use Rattle.conflict_walk.specs.Clauses.{ClausesView, all_clauses}
 use Rattle.conflict_walk.specs.Analysis.{AnalysisView, IsReady}
 use Rattle.propagation.specs.Pending.{PropagatorView}
-use Rattle.cdcl_core.specs.Search.{SearchView, IsKept, IsNextEvent, state_of, asked_first}
+use Rattle.cdcl_core.specs.Search.{SearchView, IsKept, IsNextEvent, state_of}
 use Rattle.cdcl_core.proofs.Watching.{search_of}
 
 -- two states with the same parts
@@ -102,17 +101,3 @@ next_open f s e o n = subst (IsOpenEvent s) (sym n.2) (opens f n.0 s n.1 o)
 
 pub learned_same : (k l h j : List ℕ) → k ≡ l → h ≡ j → (let x : Learned = record { clause = k; hints = h } in x) ≡ (let y : Learned = record { clause = l; hints = j } in y)
 learned_same k l h j e f = cc
-
--- what a clause asks for is the next event, and else the choice is
-event_by : (choose : Known → Option ℕ) (s : State) (p : Option ℕ) (o : Option Event) → elim p as (λ _. Option Event) [ Some n ↦ Some (asked n (open_ones (is_on s.trail) (clause_at s.clauses n))) | None ↦ None ] ≡ o → elim o as (λ _. Event) [ Some e ↦ e | None ↦ chosen_event (choose (values_of s.variables s.trail)) ] ≡ elim p as (λ _. Event) [ Some n ↦ asked n (open_ones (is_on s.trail) (clause_at s.clauses n)) | None ↦ chosen_event (choose (values_of s.variables s.trail)) ]
-event_by choose s p o e = ap (λ (q : Option Event). elim q as (λ _. Event) [ Some e ↦ e | None ↦ chosen_event (choose (values_of s.variables s.trail)) ]) (sym e) ∙ by p
-  where
-    by : (r : Option ℕ) → elim (elim r as (λ _. Option Event) [ Some n ↦ Some (asked n (open_ones (is_on s.trail) (clause_at s.clauses n))) | None ↦ None ]) as (λ _. Event) [ Some e ↦ e | None ↦ chosen_event (choose (values_of s.variables s.trail)) ] ≡ elim r as (λ _. Event) [ Some n ↦ asked n (open_ones (is_on s.trail) (clause_at s.clauses n)) | None ↦ chosen_event (choose (values_of s.variables s.trail)) ]
-    by None = refl
-    by (Some n) = refl
-
-pub asked_event : (choose : Known → Option ℕ) (s : State) (e : Event) → asked_first s ≡ Some e → e ≡ event_of choose s
-asked_event choose s e h = event_by choose s (first_pending s) (Some e) h
-
-pub chosen_next : (choose : Known → Option ℕ) (s : State) → asked_first s ≡ None → chosen_event (choose (values_of s.variables s.trail)) ≡ event_of choose s
-chosen_next choose s h = event_by choose s (first_pending s) None h

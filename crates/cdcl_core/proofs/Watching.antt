@@ -1,7 +1,6 @@
 -- Clauses that are watched on a trail: their first pending clause is the state's, and they follow the trail and the drops.
-use Rattle.std.proofs.Common.{arith, ◌≡◌, ◌≢◌, ℕ, zero, suc, ◌+◌, ◌-◌, ◌/◌, ◌<◌, ◌≤◌, List, [], ◌∷◌, ◌++◌, length, take, drop, set, get_or, map, Bool, true, false, not, ◌||◌, ◌&&◌, nat_le, nat_lt, if◌then◌else◌, refl, sym, ap, ◌∙◌, subst, Option, Some, None, filter, All, append_assoc, get_or-set_other}
+use Rattle.std.proofs.Common.{arith, ◌≡◌, ◌≢◌, ℕ, zero, suc, ◌+◌, ◌-◌, ◌/◌, ◌≤◌, List, [], ◌∷◌, ◌++◌, length, take, set, map, Bool, true, false, not, ◌||◌, ◌&&◌, nat_le, nat_lt, if◌then◌else◌, refl, sym, ap, ◌∙◌, subst, Option, Some, None, filter, All, append_assoc, get_or-set_other}
 use Rattle.std.specs.List.{list_any, range_with_len}
-use Rattle.std.proofs.Math.Seq.{drop-cons}
 use Rattle.std.proofs.lemmas.List.{get_or_push, length_push}
 use Rattle.std.proofs.lemmas.List.Elements.{All-get_or}
 use Rattle.clause_base.specs.Literal.{opposite}
@@ -140,10 +139,3 @@ half_rises given clauses kept trail =
 -- what is dropped, by the calls that work it out
 pub half_is : (v : ClausesView) (t t' : TrailView) {half items numbers : List ℕ} → half ≡ first_half items → items ≡ numbers → numbers ≡ candidates (length v.formula.clauses) (all_clauses v) v.kept t.entries → t ≡ t' → half ≡ first_half (candidates (length v.formula.clauses) (all_clauses v) v.kept t'.entries)
 half_is v t t' a b d e = a ∙ ap first_half (b ∙ d ∙ ap (λ (r : TrailView). candidates (length v.formula.clauses) (all_clauses v) v.kept r.entries) e)
-
--- the next that is dropped, and those after it
-pub kept_next : (kept : List Bool) (numbers : List ℕ) (i d : ℕ) → i < length numbers → AreKept kept (drop i numbers) → (is_kept kept (get_or numbers i d) ≡ true) × AreKept (set kept (get_or numbers i d) false) (drop (suc i) numbers)
-kept_next kept numbers i d h k = subst (AreKept kept) (drop-cons numbers i d h) k
-
-pub without_next : (kept : List Bool) (numbers : List ℕ) (i d : ℕ) → i < length numbers → kept_without kept (drop i numbers) ≡ kept_without (set kept (get_or numbers i d) false) (drop (suc i) numbers)
-without_next kept numbers i d h = ap (kept_without kept) (drop-cons numbers i d h)

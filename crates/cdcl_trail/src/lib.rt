@@ -1,5 +1,5 @@
-//! A solver's trail: the value, the level and the position of each variable, and the truth of each literal, in tables that are
-//! made once. Who watches literals reads it as an assignment.
+//! A solver's trail: the truth of each literal and the position of each variable, in tables, and where each level begins. Who watches
+//! literals reads it as an assignment.
 #![tactic(auto)]
 
 pub mod assignment;

@@ -1,14 +1,12 @@
 -- What a resolvent over a trail keeps when a literal is put in or taken out.
-use Rattle.std.proofs.Common.{arith, ◌≡◌, ◌==◌, ℕ, ◌+◌, ◌*◌, ◌/◌, ◌<◌, ◌≤◌, List, length, set, get_or, Bool, true, false, not, filter, refl, sym, ap, subst, ◌∙◌, if◌then◌else◌, length-set}
+use Rattle.std.proofs.Common.{arith, ◌≡◌, ◌==◌, ℕ, ◌+◌, ◌*◌, ◌/◌, ◌<◌, ◌≤◌, List, length, set, Bool, true, false, not, filter, refl, sym, ap, subst, ◌∙◌, if◌then◌else◌, length-set}
 use Rattle.clause_base.specs.Literal.{opposite}
 use Rattle.clause_base.specs.Clause.{put}
-use Rattle.clause_base.proofs.Rising.{has_at}
 use Rattle.cdcl_rules.specs.declared.trail.Assigned.{Assigned}
 use Rattle.cdcl_rules.specs.State.{is_on, decision_count}
 use Rattle.cdcl_rules.specs.Trail.{AllFalse}
 use Rattle.cdcl_rules.specs.Learn.{level_of}
 use Rattle.cdcl_rules.proofs.Tests.{test_same}
-use Rattle.cdcl_rules.proofs.Members.{is_in}
 use Rattle.cdcl_trail.specs.Mirrored.{TrailView}
 use Rattle.lit_marks.specs.Marks.{places, at}
 use Rattle.conflict_walk.specs.Resolvent.{ResolventView, literals, IsOver}
@@ -78,7 +76,3 @@ counted_one trail r was l v o i a n =
 -- there are no more than literals
 pub count_small : (trail : TrailView) (r was : ResolventView) → r ≡ was → IsOver trail was → r.count ≤ 2 * trail.variables
 count_small trail r was v w = let o = seen_over trail r was v w in omega (arith, o.counted, o.size, number_le (is_now trail.entries) 0 r.on)
-
--- a read member of a list
-pub read_in : (ls : List ℕ) (i d : ℕ) → i < length ls → is_in ls (get_or ls i d) ≡ true
-read_in ls i d h = has_at ls i d h

@@ -1,17 +1,15 @@
 -- One entry of the walk.
-use Rattle.std.proofs.Common.{arith, ◌≡◌, ◌==◌, ℕ, zero, suc, ◌+◌, ◌-◌, ◌<◌, ◌≤◌, List, [], ◌∷◌, ◌++◌, length, get_or, take, reverse, Bool, true, not, ◌&&◌, refl, sym, ap, ◌∙◌, subst, fold, if◌then◌else◌, Option, Some, None, nat_lt, append_assoc}
+use Rattle.std.proofs.Common.{arith, ◌≡◌, ◌==◌, ℕ, ◌+◌, ◌-◌, ◌<◌, ◌≤◌, List, [], ◌∷◌, ◌++◌, length, get_or, take, reverse, Bool, true, not, ◌&&◌, refl, sym, ap, ◌∙◌, subst, fold, if◌then◌else◌, Option, Some, None, nat_lt, append_assoc}
 use Rattle.std.proofs.lemmas.List.{take_more, reverse-append, append-nil}
-use Rattle.std.proofs.lemmas.List.Elements.{All-get_or}
 use Rattle.std.proofs.lemmas.Bool.Decides.{nat_tests}
 use Rattle.clause_base.specs.Literal.{opposite}
 use Rattle.clause_base.specs.Clause.{IsRising, put}
 use Rattle.clause_base.proofs.ClauseLemmas.{rising-tail}
 use Rattle.cdcl_rules.specs.declared.trail.Assigned.{Assigned}
-use Rattle.cdcl_rules.specs.State.{clause_at, is_on, decision_count}
+use Rattle.cdcl_rules.specs.State.{clause_at, decision_count}
 use Rattle.cdcl_rules.specs.Learn.{Learned, walk, current, resolvent}
-use Rattle.cdcl_rules.proofs.Tests.{or_true, same_test}
 use Rattle.cdcl_rules.proofs.Members.{is_in}
-use Rattle.conflict_walk.specs.Walk.{stops, IsForcedBy, IsReasoned}
+use Rattle.conflict_walk.specs.Walk.{stops}
 use Rattle.lit_marks.proofs.Places.{IsFrom, from_less}
 
 -- the entries that are left, the last one first
@@ -32,18 +30,6 @@ pub step_back : (clauses : List (List ℕ)) (trail es : List Assigned) (index : 
 step_back clauses trail es index a c found stop o h l s e f t r =
     let read = subst (λ (xs : List Assigned). a ≡ get_or xs (index - 1) a) s e in
     ap (λ (xs : List Assigned). walk clauses trail xs c) (entries_back trail index a h l read) ∙ walk_step clauses trail a (reverse (take (index - 1) trail)) c found stop o f t r
-
--- an entry of the trail is on it
-pub entry_on : (trail : List Assigned) (index : ℕ) (a : Assigned) → index < length trail → a ≡ get_or trail index a → is_on trail a.literal ≡ true
-entry_on [] index a h e = absurd (omega arith)
-entry_on (b ∷ trail) zero a h e = let s : (b.literal == a.literal) ≡ true = same_test b.literal a.literal (ap (λ (x : Assigned). x.literal) (sym e)) in rw s
-entry_on (b ∷ trail) (suc index) a h e = rw (entry_on trail index a (omega arith) e) (or_true (b.literal == a.literal))
-
-pub forced_at : (clauses : List (List ℕ)) (trail : List Assigned) (index : ℕ) (a : Assigned) (o : Option ℕ) → IsReasoned clauses trail → index < length trail → a ≡ get_or trail index a → a.reason ≡ o → IsForcedBy clauses trail a.literal o
-forced_at clauses trail index a o w h e f =
-    let g = All-get_or (λ (x : Assigned). IsForcedBy clauses trail x.literal x.reason) trail index a h w in
-    let k = subst (λ (x : Assigned). IsForcedBy clauses trail x.literal x.reason) (sym e) g in
-    subst (λ (p : Option ℕ). IsForcedBy clauses trail a.literal p) f k
 
 -- a rising clause is its own sorted list
 abbrev IsUpTo : ℕ → List ℕ → Type 0

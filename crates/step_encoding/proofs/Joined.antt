@@ -5,7 +5,7 @@ use Rattle.gt_core.specs.Literal.{range, range_from}
 use Rattle.horizon_formula.specs.Layout.{Layout, width, variables}
 use Rattle.clause_base.specs.Clause.{HasVariablesBelow}
 use Rattle.clause_base.specs.Formula.{Cnf}
-use Rattle.clause_base.specs.Repeats.{Repeats, IsRepeatable, moved_code, repeated, variables_of}
+use Rattle.clause_base.specs.Repeats.{Repeats, IsRepeatable, moved_code, repeated}
 use Rattle.clause_base.proofs.Moved.{where_is, moved_above}
 use Rattle.clause_base.proofs.RepeatLemmas.{length_repeated}
 use Rattle.step_encoding.specs.Parts.{added, step_part, time_part, StepsFit, TimesFit}
@@ -108,11 +108,6 @@ first_fits inside now step known s k v es ek times none few small =
       step_below = All-nil (HasVariablesBelow (0 + 2 * now.facts));
       time_below = time_below now known times;
     })
-
-pub first_variables : (z : Layout) (known : List (List ℕ)) (r : Repeats) → z.horizon ≡ 0 → r ≡ first_of z known → variables_of r ≡ variables z
-first_variables z known r n e =
-    let whole : 0 * 0 + (0 + 1) * z.facts ≡ 0 * width z + (0 + 1) * z.facts = omega arith in
-    ap variables_of e ∙ whole ∙ ap (λ (m : ℕ). m * width z + (m + 1) * z.facts) (sym n)
 
 -- the formula of its ends and its repeated part
 pub whole_by : {E : Type 0} (r : Result Cnf E) (name top : ℕ) (f0 f1 f2 f3 : Cnf) (first hopeless goal part all : List (List ℕ)) → f0 ≡ record { name = name; variables = top; clauses = [] } → f1 ≡ added f0 first → f2 ≡ added f1 hopeless → f3 ≡ added f2 goal → part ≡ all → IfOk r (λ f. f ≡ record f3 { clauses = f3.clauses ++ part }) → IfOk r (λ f. f ≡ record { name = name; variables = top; clauses = first ++ ((hopeless ++ goal) ++ all) })

@@ -8,13 +8,12 @@ use Rattle.std.specs.Prelude.{slice_index_or}
 use Rattle.gt_core.specs.Lawful.{is_task}
 use Rattle.gt_core.proofs.Basics.{each_at}
 use Rattle.gt_core.proofs.Within.{literals_within, lawful, among_at}
-use Rattle.clause_base.specs.Clause.{IsClause}
 use Rattle.clause_base.specs.Formula.{Cnf}
 use Rattle.horizon_formula.specs.Clause.{Is, Not, code}
 use Rattle.horizon_formula.specs.Formula.{literal_over, initial_clauses, goal_clauses}
 use Rattle.horizon_formula.specs.Coded.{coded}
 use Rattle.horizon_formula.proofs.CodedLaw.{coded-append}
-use Rattle.horizon_formula.proofs.SizeLaw.{singles, not_opposite}
+use Rattle.horizon_formula.proofs.SizeLaw.{singles}
 use Rattle.step_encoding.specs.Parts.{added}
 use Rattle.std.proofs.lemmas.List.{append-nil}
 
@@ -23,9 +22,6 @@ use Rattle.std.proofs.lemmas.List.{append-nil}
 pub joined_twice : (xs ys zs : List (List ℕ)) → (xs ++ ys) ++ zs ≡ xs ++ (ys ++ zs)
 joined_twice [] ys zs = refl
 joined_twice (x ∷ xs) ys zs = ap (λ (r : List (List ℕ)). x ∷ r) (joined_twice xs ys zs)
-
-pub added_none : (f : Cnf) → f ≡ added f []
-added_none f = ap (λ (cs : List (List ℕ)). record { name = f.name; variables = f.variables; clauses = cs }) (sym (append-nil f.clauses))
 
 pub added_twice : (f : Cnf) (xs ys : List (List ℕ)) → added (added f xs) ys ≡ added f (xs ++ ys)
 added_twice f xs ys = ap (λ (cs : List (List ℕ)). record { name = f.name; variables = f.variables; clauses = cs }) (joined_twice f.clauses xs ys)
@@ -74,10 +70,6 @@ goal_parts z task =
     coded-append (if task.hopeless then [] ∷ [] else []) (map (λ l. literal_over (fact_at z z.horizon) l ∷ []) task.goal)
     ∙ ap (λ (cs : List (List ℕ)). cs ++ coded (map (λ l. literal_over (fact_at z z.horizon) l ∷ []) task.goal)) (hopeless_by task.hopeless)
     ∙ ap (λ (cs : List (List ℕ)). (if task.hopeless then [] ∷ [] else []) ++ cs) (singles (λ l. literal_over (fact_at z z.horizon) l) task.goal)
-
--- a literal by itself is a clause
-pub single_is_clause : (l : ℕ) → IsClause (l ∷ [])
-single_is_clause l = record { rising = tt; no_pair = rw (not_opposite l) refl }
 
 -- the literals of a lawful goal are of the task's facts
 pub goal_in_range : (task : Task) → is_task task ≡ true → (items : List ℕ) (k n : ℕ) → items ≡ task.goal → n ≡ task.facts → k < length items → slice_index_or items k 0 / 2 < n

@@ -20,7 +20,6 @@ use Rattle.horizon_formula.proofs.CodedLaw.{coded-append}
 use Rattle.horizon_formula.proofs.InRange.{IsInRange}
 use Rattle.horizon_formula.proofs.ShiftLaw.{step_moved, known_moved}
 use Rattle.horizon_formula.proofs.SizeLaw.{size_law, chains_within_size}
-use Rattle.horizon_formula.proofs.Sorted.{set_few}
 use Rattle.horizon_formula.proofs.Within.{step_within, known_within}
 use Rattle.step_laws.specs.Form.{OrderedTask, IsOrderedTask}
 use Rattle.step_encoding.specs.Limits.{most_literals}
@@ -149,11 +148,3 @@ layout_fits task pairs places is in_range n le small =
 
     sum_fits : (n a c x f s : ℕ) → n * a ≤ 255 * 16384 → n * c ≤ 255 * 65536 → n * x ≤ s → s ≤ most_literals → f ≤ 256 * 2048 → n * (a + c + x) + f ≤ 2147483647
     sum_fits n a c x f s h i j k l = omega arith
-
--- a goal has few literals
-pub goal_few : (task : Task) → is_task task ≡ true → length task.goal ≤ 4096
-goal_few task t =
-    let l = lawful task t in
-    let h = set_few task.facts task.goal l.goal in
-    let f = l.facts in
-    omega (arith, h, f)

@@ -14,20 +14,6 @@ use Rattle.step_template.proofs.AddersLaw.{parted}
 
 -- What is counted of the effects before one, after one more.
 
-pub none_counted : (adds : Adds) → adds.count ≡ 0 → adds.sure ≡ false → IsCount adds []
-none_counted adds c s = record {
-  count = λ l even w. by (adds.lit == l) c;
-  sure = λ l even w. and_none (adds.lit == l) s;
-}
-  where
-    by : (b : Bool) → adds.count ≡ 0 → 0 ≡ (if b then adds.count else 0)
-    by true e = sym e
-    by false e = refl
-
-    and_none : (b : Bool) → adds.sure ≡ false → false ≡ (b && adds.sure)
-    and_none true e = sym e
-    and_none false e = refl
-
 counted : (l : ℕ) (xs : List Effect) (e : Effect) → adds_of (xs ++ e ∷ []) l ≡ adds_of xs l + cond (e.literal == l) 1 0
 counted l xs e =
     let a = sum_by-append (λ (f : Effect). cond (f.literal == l) 1 0) xs (e ∷ []) in

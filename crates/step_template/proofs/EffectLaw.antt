@@ -16,7 +16,6 @@ use Rattle.horizon_formula.proofs.CodedLaw.{coded-append}
 use Rattle.step_template.specs.Rows.{row_of, rows_of, number_after, made_by}
 use Rattle.step_template.proofs.Groups.{joined_twice, rest}
 use Rattle.step_template.proofs.RowLaw.{rows_step, rows_parts, only_of}
-use Rattle.std.proofs.lemmas.List.{append-nil}
 
 -- The clauses of effects, part by part.
 
@@ -49,16 +48,6 @@ meaning_parts z a j e v condition before first second after t n k h g f =
     by : (b : Bool) → b ≡ true → (cs : List (List Literal)) → cs ≡ (if b then cs else [])
     by true e cs = refl
     by false e cs = cc
-
--- an effect without condition has no clause of that kind
-pub no_meaning : (z : Layout) (a j : ℕ) (e : Effect) (before : List (List ℕ)) → is_conditional e ≡ false → before ≡ before ++ coded (meaning_clauses (action_at z 0) (fact_at z 0) (variable_at z 0) (row_of a j e))
-no_meaning z a j e before t =
-    sym (append-nil before)
-    ∙ ap (λ (cs : List (List Literal)). before ++ coded cs) (by (is_conditional e) t ((Not (variable_at z 0 (row_of a j e)) ∷ Is (action_at z 0 a) ∷ []) ∷ (map (λ c. Not (variable_at z 0 (row_of a j e)) ∷ literal_over (fact_at z 0) c ∷ []) e.condition ++ (Is (variable_at z 0 (row_of a j e)) ∷ Not (action_at z 0 a) ∷ map (λ c. literal_over (fact_at z 0) (opposite c)) e.condition) ∷ [])))
-  where
-    by : (b : Bool) → b ≡ false → (cs : List (List Literal)) → [] ≡ (if b then cs else [])
-    by true e cs = cc
-    by false e cs = refl
 
 -- what an effect makes true, in codes
 pub result_codes : (z : Layout) (a j v m : ℕ) (all : List Row) (e : Effect) (lits : List ℕ) → v ≡ variable_at z 0 (row_of a j e) → m ≡ code (literal_over (fact_at z 1) e.literal) → lits ≡ (2 * v + 1) ∷ m ∷ (if e.literal % 2 == 0 then [] else made_by z a (opposite e.literal) all) → lits ≡ map code (result_clause (fact_at z 1) (variable_at z 0) all (row_of a j e))

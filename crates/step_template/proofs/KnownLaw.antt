@@ -1,17 +1,15 @@
-use Rattle.std.proofs.Common.{arith, ◌≡◌, ◌==◌, ℕ, ◌+◌, ◌/◌, ◌%◌, List, [], ◌∷◌, ◌++◌, drop, slice_get, Some, Bool, true, false, ◌&&◌, ◌||◌, if◌then◌else◌, refl, sym, ap, ◌∙◌}
+use Rattle.std.proofs.Common.{arith, ◌≡◌, ◌==◌, ℕ, ◌+◌, ◌/◌, ◌%◌, List, [], ◌∷◌, ◌++◌, drop, slice_get, Some, Bool, true, false, ◌&&◌, ◌||◌, if◌then◌else◌, refl, ap, ◌∙◌}
 use Rattle.std.specs.List.{flat_map, cons_option}
 use Rattle.std.proofs.lemmas.List.{drop_more}
 use Rattle.std.proofs.lemmas.Option.{slice_get_within, get_or_from_slice_get}
 use Rattle.std.proofs.lemmas.Bool.Decides.{nat_tests}
 use Rattle.gt_core.specs.Interference.{has_clause}
-use Rattle.gt_core.proofs.Basics.{same_test}
 use Rattle.clause_base.specs.Clause.{clause_of}
 use Rattle.horizon_formula.specs.Clause.{Literal, Is, Not, code}
 use Rattle.horizon_formula.specs.Formula.{literal_over, is_single, pair_clause}
 use Rattle.horizon_formula.specs.Coded.{coded}
 use Rattle.horizon_formula.proofs.CodedLaw.{coded-append}
 use Rattle.step_template.proofs.Groups.{rest}
-use Rattle.std.proofs.lemmas.List.{append-nil}
 
 -- The known pairs, one by one.
 
@@ -41,21 +39,6 @@ module _ (pairs : List (ℕ × ℕ)) (l m : ℕ) (before after : List (List ℕ)
 
   abbrev double : List (List Literal)
   double = (literal_over (λ f. f) l ∷ literal_over (λ f. f) m ∷ []) ∷ []
-
-  pub known_single : l ≡ m → after ≡ before ++ cons_option (clause_of (l ∷ [])) [] → Known
-  known_single e h = h ∙ ap (λ (k : ℕ). before ++ cons_option (clause_of (k ∷ [])) []) (plain_code l) ∙ ap (λ (cs : List (List Literal)). before ++ coded cs) (by (l == m) (same_test l m e) (if is_single pairs l || is_single pairs m then [] else double))
-    where
-      by : (b : Bool) → b ≡ true → (cs : List (List Literal)) → single ≡ (if b then single else cs)
-      by true e cs = refl
-      by false e cs = cc
-
-  pub known_left_out : (l ≡ m → ⊥) → (is_single pairs l || is_single pairs m) ≡ true → after ≡ before → Known
-  known_left_out n t h = h ∙ sym (append-nil before) ∙ ap (λ (cs : List (List Literal)). before ++ coded cs) (by (l == m) (is_single pairs l || is_single pairs m) refl t)
-    where
-      by : (b c : Bool) → (l == m) ≡ b → c ≡ true → [] ≡ (if b then single else if c then [] else double)
-      by true c e f = let s : l ≡ m = grind (arith, nat_tests) in absurd (n s)
-      by false true e f = refl
-      by false false e f = cc
 
   pub known_double : (l ≡ m → ⊥) → is_single pairs l ≡ false → is_single pairs m ≡ false → after ≡ before ++ cons_option (clause_of (l ∷ m ∷ [])) [] → Known
   known_double n s t h =

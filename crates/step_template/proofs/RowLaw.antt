@@ -6,7 +6,6 @@ use Rattle.std.proofs.lemmas.Bool.Decides.{nat_tests}
 use Rattle.gt_core.specs.Task.{Effect, Action, Task, EffectOf, owned, effects_from, action}
 use Rattle.gt_core.specs.Lawful.{is_conditional, conditional_in}
 use Rattle.horizon_formula.specs.Layout.{Layout}
-use Rattle.gt_core.proofs.Basics.{same_test}
 use Rattle.horizon_formula.specs.Clause.{Is, code}
 use Rattle.horizon_formula.specs.Variables.{Row, rows_from, variable_at}
 use Rattle.step_template.specs.Rows.{row_of, rows_of, number_after, made_by, made}
@@ -56,10 +55,6 @@ number_taken first number next es i d e h lt is n = by (is_conditional e) refl n
     by : (b : Bool) → is_conditional e ≡ b → next ≡ (if b then number + 1 else number) → next ≡ first + count_by is_conditional (take (i + 1) es)
     by true t m = let s = whole in let w = ap {B = ℕ} (λ (b : Bool). cond b 1 0) t in omega (arith, s, w, m, h)
     by false t m = let s = whole in let w = ap {B = ℕ} (λ (b : Bool). cond b 1 0) t in omega (arith, s, w, m, h)
-
--- one action's conditional effects more
-pub conditional_more : (acts : List Action) (i : ℕ) (d : Action) → i < length acts → conditional_in (drop i acts) ≡ count_by is_conditional (get_or acts i d).effects + conditional_in (drop (i + 1) acts)
-conditional_more acts i d lt = ap conditional_in (drop_more acts i d lt) ∙ sum_by-cons (λ a. count_by is_conditional a.effects) (get_or acts i d) (drop (i + 1) acts)
 
 pub conditional_taken : (acts : List Action) (i : ℕ) (d : Action) → i < length acts → conditional_in (take (i + 1) acts) ≡ conditional_in (take i acts) + count_by is_conditional (get_or acts i d).effects
 conditional_taken acts i d lt =
@@ -117,15 +112,6 @@ pub rows_step : (a number : ℕ) (es : List Effect) (i : ℕ) (d e : Effect) →
 rows_step a number es i d e lt is =
     ap (rows_of a number) (drop_more es i d lt)
     ∙ ap (λ (f : Effect). row_of a number f ∷ rows_of a (number_after number f) (drop (i + 1) es)) (sym is)
-
--- an effect with the literal, and one with another
-pub made_one : (z : Layout) (a j l : ℕ) (e : Effect) → e.literal ≡ l → made_by z a l (row_of a j e ∷ []) ≡ (2 * variable_at z 0 (row_of a j e)) ∷ []
-made_one z a j l e h = by (a == a) (e.literal == l) (same_test a a refl) (same_test e.literal l h)
-  where
-    by : (b c : Bool) → b ≡ true → c ≡ true → map code (map (λ r. Is (variable_at z 0 r)) (if b && c then row_of a j e ∷ [] else [])) ≡ (2 * variable_at z 0 (row_of a j e)) ∷ []
-    by true true x y = refl
-    by true false x y = cc
-    by false c x y = cc
 
 pub made_none : (z : Layout) (a j l : ℕ) (e : Effect) → (e.literal ≡ l → ⊥) → made_by z a l (row_of a j e ∷ []) ≡ []
 made_none z a j l e h = by (a == a) (e.literal == l) refl
