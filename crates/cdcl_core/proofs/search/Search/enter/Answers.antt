@@ -25,13 +25,6 @@ add_sorted-requires-clause-below c =
     let over = ap (λ (v : PropagatorView). v.variables) c.backtrack.ensures ∙ c.self.invariant.over in
     subst (λ (n : ℕ). HasVariablesBelow n k) (sym over) below
 
-pub reduce-requires : goal.reduce-requires
-reduce-requires c =
-    let t = c.self.inside in
-    let trail = backtracked c.level_after-level.result t.propagator.entries in
-    let m = watched_going c.self.invariant c.self.view_is c.requires.sane c.requires.going in
-    watched_now c.learn.new.self c.add_sorted.new.self trail (watched_learned t.clauses c.learn.new.self t.propagator.entries trail t.propagator c.backtrack.new.self c.add_sorted.new.self c.args.new.lits c.as_slice.result.now m c.in_ok-learn.ensures.ok c.backtrack.ensures c.in_ok-add_sorted.ensures.ok)
-
 pub returns-in_err-learn-clause-log : goal.returns-in_err-learn-clause-log
 returns-in_err-learn-clause-log c =
     let t = c.self.inside in
@@ -70,6 +63,11 @@ watch c =
     let t = c.self.inside in
     let m = watched_going c.self.invariant c.self.view_is c.requires.sane c.requires.going in
     watched_learned t.clauses c.learn.new.self t.propagator.entries (left c) t.propagator c.backtrack.new.self c.add_sorted.new.self c.args.new.lits c.as_slice.result.now m c.in_ok-learn.ensures.ok c.backtrack.ensures c.in_ok-add_sorted.ensures.ok
+
+pub reduce-requires : goal.reduce-requires
+reduce-requires c =
+    let at = (goal.at.reduce-requires c).In_ok-add_sorted in
+    watched_now c.learn.new.self c.add_sorted.new.self (left at) (watch at)
 
 back : (c : In_ok-add_sorted) → left c ≡ trail_after c.args.self.now.state c.args.new.lits
 back c =
