@@ -1,5 +1,5 @@
 -- What the next event of a sound state gives: what is learned is a clause that is false, and the state after it is sound.
-use Rattle.std.proofs.Common.{◌≡◌, ℕ, ◌<◌, List, [], length, replicate, All, Bool, true, false, refl, sym, ap, ◌∙◌, subst, Option, Some, None}
+use Rattle.std.proofs.Common.{◌≡◌, ℕ, ◌<◌, List, [], length, replicate, All, Bool, true, false, refl, sym, ap, subst, Option, Some, None}
 use Rattle.std.proofs.lemmas.List.{append-nil}
 use Rattle.clause_base.specs.Formula.{Cnf, IsWithinVariables}
 use Rattle.clause_base.specs.Clause.{IsClause, IsRising}
@@ -24,12 +24,10 @@ use Rattle.cdcl_rules.proofs.Kept.{conflict_good, learnt, all_rising, sound_next
 use Rattle.cdcl_rules.proofs.Fuel.{opens}
 use Rattle.cdcl_rules.proofs.Start.{start_sound}
 use Rattle.clause_base.specs.Derivation.{clause_kept}
-use Rattle.cdcl_trail.specs.Mirrored.{TrailView}
-use Rattle.conflict_walk.specs.Clauses.{ClausesView, all_clauses}
+use Rattle.conflict_walk.specs.Clauses.{ClausesView}
 use Rattle.conflict_walk.specs.Analysis.{AnalysisView, IsReady}
 use Rattle.propagation.specs.Pending.{PropagatorView}
-use Rattle.cdcl_core.specs.Search.{SearchView, IsKept, IsNextEvent, state_of}
-use Rattle.cdcl_core.proofs.Watching.{search_of}
+use Rattle.cdcl_core.specs.Search.{IsKept, IsNextEvent, state_of}
 
 -- two states with the same parts
 pub state_same : (n m g h : ℕ) (cs ds : List (List ℕ)) (ks ls : List Bool) (t u : List Assigned) (j k : ℕ) (l i : List Entry) (x y : Standing) → n ≡ m → g ≡ h → cs ≡ ds → ks ≡ ls → t ≡ u → j ≡ k → l ≡ i → x ≡ y → (let s : State = record { variables = n; given = g; clauses = cs; kept = ks; trail = t; conflicts = j; log = l; standing = x } in s) ≡ (let r : State = record { variables = m; given = h; clauses = ds; kept = ls; trail = u; conflicts = k; log = i; standing = y } in r)
@@ -50,15 +48,6 @@ kept_start f clauses propagator analysis l m e c b = rw (l, m) (record {
   sound = subst (IsSound f) (sym (start_is f)) (start_sound f c b);
   mirrored = λ h g. ap (λ (cs : List (List ℕ)). let v : PropagatorView = record { variables = f.variables; clauses = cs; kept = replicate (length f.clauses) true; entries = [] } in v) (sym (append-nil f.clauses));
 })
-
--- what a search by its parts learns from a conflict, and what is read of it, is what its state learns
-pub learned_is : {A : Type 0} (read : Learned → A) (number : ℕ) {cs : List (List ℕ)} {trail : TrailView} {clauses : ClausesView} {n : ℕ} {entries : List Assigned} {standing : Standing} {spoilt : Bool} {v : SearchView}
-    → cs ≡ all_clauses clauses → trail ≡ record { variables = n; entries = entries } → search_of clauses entries standing spoilt ≡ v
-    → read (learned cs trail.entries number) ≡ read (learned v.state.clauses v.state.trail number)
-learned_is read number {trail = trail} {clauses = clauses} all at is =
-    ap (λ (ds : List (List ℕ)). read (learned ds trail.entries number)) all
-    ∙ ap (λ (t : TrailView). read (learned (all_clauses clauses) t.entries number)) at
-    ∙ ap (λ (s : SearchView). read (learned s.state.clauses s.state.trail number)) is
 
 -- a conflict that comes next is in a clause that is kept and whose literals are all false
 conflict_by : (s : State) (i : ℕ) (o : Option ℕ) (c : Option ℕ) → first_pending s ≡ o → Conflict i ≡ elim o as (λ _. Event) [ Some n ↦ asked n (open_ones (is_on s.trail) (clause_at s.clauses n)) | None ↦ chosen_event c ] → Asks s (Conflict i)

@@ -13,7 +13,6 @@ use Rattle.cdcl_rules.specs.Machine.{turns}
 use Rattle.cdcl_rules.specs.Run.{apply, next, rests, dropped_after}
 use Rattle.cdcl_rules.proofs.Cutting.{Reaches}
 use Rattle.cdcl_core.specs.Search.{GoesOn}
-use Rattle.conflict_walk.specs.Clauses.{ClausesView}
 
 pub goes_same : (old new : List Entry) → new ≡ old → GoesOn old new
 goes_same old new e = ([], e ∙ sym (append-nil old))
@@ -40,10 +39,6 @@ goes_turns choose limit (suc m) s = goes_step choose limit m s (rests choose lim
 
 pub goes_reached : (choose : Known → Option ℕ) (limit : ℕ) (s t : State) → Reaches (next choose) (rests choose) limit s t → GoesOn s.log t.log
 goes_reached choose limit s t r = let f : State → Type 0 = λ u. GoesOn s.log u.log in subst f r.1 (goes_turns choose limit r.0 s)
-
--- where a clause was learned
-pub goes_learned : (old new : ClausesView) (k h : List ℕ) → new ≡ record old { log = old.log ++ Learn k h ∷ []; kept = old.kept ++ true ∷ [] } → GoesOn old.log new.log
-goes_learned old new k h e = (Learn k h ∷ [], ap (λ (v : ClausesView). v.log) e)
 
 -- so where a call has failed or not
 pub goes_err : {T E P : Type 0} → (r : Result T E) → P → OnErr r P

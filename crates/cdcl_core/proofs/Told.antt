@@ -1,9 +1,8 @@
 -- What the chooser of a solver was told: the values of the literals on a trail, and what stays as the trail changes.
-use Rattle.std.proofs.Common.{arith, ◌≡◌, ◌==◌, ℕ, zero, suc, ◌+◌, ◌*◌, ◌/◌, ◌%◌, ◌<◌, ◌≤◌, List, [], ◌∷◌, ◌++◌, length, take, get_or, min, All, reverse, Bool, true, false, ◌||◌, Option, Some, None, refl, sym, ap, ◌∙◌, subst, if◌then◌else◌, ◌⊎◌, inl, inr, Result, Ok, Err, OnOk, OnErr}
+use Rattle.std.proofs.Common.{arith, ◌≡◌, ◌==◌, ℕ, zero, suc, ◌+◌, ◌*◌, ◌/◌, ◌%◌, ◌<◌, List, [], ◌∷◌, ◌++◌, length, take, get_or, min, reverse, Bool, true, false, ◌||◌, Option, Some, None, refl, sym, ap, ◌∙◌, subst, if◌then◌else◌, ◌⊎◌, inl, inr, Result, Ok, Err, OnOk, OnErr}
 use Rattle.std.proofs.lemmas.Bool.{cases_eq}
 use Rattle.std.proofs.lemmas.Bool.Decides.{nat_tests}
-use Rattle.std.proofs.lemmas.List.{take-take, take-append-le, take_all, map-append, length-append, length-map, length-take, get_or-map}
-use Rattle.std.proofs.lemmas.List.Elements.{All-get_or}
+use Rattle.std.proofs.lemmas.List.{take-take, take-append-le, map-append, length-append, length-map, get_or-map}
 use Rattle.std.proofs.Math.Seq.{take-suc}
 use Rattle.clause_base.specs.Told.{told_value, told_from, told_values}
 use Rattle.clause_base.specs.Literal.{opposite}
@@ -136,17 +135,3 @@ next_told trail i a h e =
     let long = length-map trail (λ (b : Assigned). b.literal) in
     let at : get_or (literals trail) i a.literal ≡ a.literal = get_or-map (λ (b : Assigned). b.literal) trail i a a.literal h ∙ ap (λ (b : Assigned). b.literal) (sym e) in
     ap (λ (k : ℕ). take k (literals trail)) s ∙ take-suc (literals trail) i a.literal (omega (arith, long, h)) ∙ ap (λ (x : ℕ). take i (literals trail) ++ x ∷ []) at
-
--- all of them were told
-pub told_all : (knows : List ℕ → Type 0) (n i : ℕ) (trail : List Assigned) → n ≡ length trail → n ≤ i → knows (take i (literals trail)) → knows (literals trail)
-told_all knows n i trail e h k = let long = length-map trail (λ (b : Assigned). b.literal) in subst knows (take_all i (literals trail) (omega (arith, long, e, h))) k
-
-pub told_now : (knows : List ℕ → Type 0) (kept : ℕ) (trail : List Assigned) → knows (literals trail) → kept ≡ length trail → IsToldUpTo knows kept trail
-told_now knows kept trail k e = record { told = literals trail; known = k; within = omega (arith, e); same = refl }
-
--- a literal on a trail is of one of the variables, and before it fewer were told than there are
-pub below_at : (n i : ℕ) (trail : List Assigned) (a : Assigned) → i < length trail → a ≡ get_or trail i a → All (λ b. b.literal / 2 < n) trail → a.literal / 2 < n
-below_at n i trail a h e all = subst (λ (b : Assigned). b.literal / 2 < n) (sym e) (All-get_or (λ (b : Assigned). b.literal / 2 < n) trail i a h all)
-
-pub few_told : (n i : ℕ) (trail : List Assigned) → i < length trail → length trail ≤ n → length (take i (literals trail)) < n
-few_told n i trail h few = let long = length-map trail (λ (b : Assigned). b.literal) in let front = length-take i (literals trail) in omega (arith, long, front, h, few)

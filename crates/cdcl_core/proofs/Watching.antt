@@ -1,10 +1,8 @@
 -- Clauses that are watched on a trail: their first pending clause is the state's, and they follow the trail and the drops.
-use Rattle.std.proofs.Common.{arith, ◌≡◌, ◌≢◌, ℕ, zero, suc, ◌+◌, ◌-◌, ◌/◌, ◌≤◌, List, [], ◌∷◌, ◌++◌, length, take, set, map, Bool, true, false, not, ◌||◌, ◌&&◌, nat_le, nat_lt, if◌then◌else◌, refl, sym, ap, ◌∙◌, subst, Option, Some, None, filter, All, append_assoc, get_or-set_other}
+use Rattle.std.proofs.Common.{arith, ◌≡◌, ◌≢◌, ℕ, zero, suc, ◌+◌, ◌-◌, ◌/◌, ◌≤◌, List, [], ◌∷◌, ◌++◌, length, take, set, map, Bool, true, false, not, ◌||◌, ◌&&◌, nat_le, nat_lt, if◌then◌else◌, refl, sym, ap, ◌∙◌, Option, Some, None, filter, append_assoc, get_or-set_other}
 use Rattle.std.specs.List.{list_any, range_with_len}
-use Rattle.std.proofs.lemmas.List.{get_or_push, length_push}
-use Rattle.std.proofs.lemmas.List.Elements.{All-get_or}
 use Rattle.clause_base.specs.Literal.{opposite}
-use Rattle.clause_base.specs.Clause.{has_literal, HasVariablesBelow, IsRising}
+use Rattle.clause_base.specs.Clause.{has_literal, IsRising}
 use Rattle.clause_base.specs.Derivation.{clauses_of}
 use Rattle.clause_base.specs.declared.log.Entry.TheVariants.{Learn, Drop}
 use Rattle.cdcl_rules.specs.declared.trail.Assigned.{Assigned}
@@ -65,17 +63,9 @@ first_watched clauses trail standing w o m e =
     e ∙ ap (λ (v : PropagatorView). first_asked v.clauses v.kept (has_literal (literals v.entries))) m
     ∙ first_same (has_literal (literals trail)) (is_on trail) (has_is trail) (all_clauses clauses) clauses.kept
 
--- one literal more is true
-pub watched_assign : (clauses : ClausesView) (trail : List Assigned) (w w' : PropagatorView) (a : Assigned) → w ≡ watched clauses trail → w' ≡ record w { entries = w.entries ++ a ∷ [] } → w' ≡ watched clauses (trail ++ a ∷ [])
-watched_assign clauses trail w w' a m e = e ∙ ap (λ (v : PropagatorView). record v { entries = v.entries ++ a ∷ [] }) m
-
 -- what a search watches, by its parts
 views_same : (n m : ℕ) (cs ds : List (List ℕ)) (ks ls : List Bool) (t : List Assigned) → n ≡ m → cs ≡ ds → ks ≡ ls → (let v : PropagatorView = record { variables = n; clauses = cs; kept = ks; entries = t } in v) ≡ (let w : PropagatorView = record { variables = m; clauses = ds; kept = ls; entries = t } in w)
 views_same n m cs ds ks ls t a b c = cc
-
-pub last_below : (n : ℕ) (cs : List (List ℕ)) (k : List ℕ) → All (HasVariablesBelow n) (cs ++ k ∷ []) → HasVariablesBelow n k
-last_below n cs k a =
-    subst (HasVariablesBelow n) (get_or_push cs k [] (length cs) refl) (All-get_or (HasVariablesBelow n) (cs ++ k ∷ []) (length cs) [] (omega (arith, length_push cs k)) a)
 
 -- once a clause is learned, the trail goes back and the clause is watched
 pub watched_learned : (clauses clauses' : ClausesView) (trail trail' : List Assigned) (w w' w2 : PropagatorView) (k h : List ℕ) → w ≡ watched clauses trail → clauses' ≡ record clauses { log = clauses.log ++ Learn k h ∷ []; kept = clauses.kept ++ true ∷ [] } → w' ≡ record w { entries = trail' } → w2 ≡ record w' { clauses = w'.clauses ++ k ∷ []; kept = w'.kept ++ true ∷ [] } → w2 ≡ watched clauses' trail'

@@ -1,6 +1,5 @@
-use Rattle.std.proofs.Common.{arith, ◌≡◌, ◌<◌, ◌+◌, ◌++◌, ◌∙◌, ℕ, List, [], Bool, false, not, filter, length, length-append, drop, get_or, sym, ap, subst}
-use Rattle.std.proofs.Math.ListN.{drop_of_length-le}
-use Rattle.std.proofs.lemmas.List.{append-nil, drop_more, get_or_default}
+use Rattle.std.proofs.Common.{arith, ◌≡◌, ◌<◌, ◌+◌, ◌++◌, ◌∙◌, ℕ, List, Bool, false, not, filter, length, length-append, drop, get_or, sym, ap, subst}
+use Rattle.std.proofs.lemmas.List.{drop_more, get_or_default}
 use Rattle.cdcl_rules.specs.declared.trail.Assigned.{Assigned}
 use Rattle.cdcl_rules.specs.Reduce.{has_forced, candidates}
 use Rattle.clause_base.specs.Derivation.{clauses_of}
@@ -51,10 +50,3 @@ loop-number-preserved c =
       | then-not-index+in_ok-push w ↦ taken_one p whole xs c.if-not-index.numbers.items (drop i longs) (drop (i + 1) longs) k c.loop-number.invariant next (ap not (sym flag) ∙ ap not w.if-not-index.true) (rw w.numbers-is w.in_ok-push.ensures.items)
       | else-not-index w ↦ passed_one p whole xs c.if-not-index.numbers.items (drop i longs) (drop (i + 1) longs) k c.loop-number.invariant next (ap not (sym flag) ∙ ap not w.if-not-index.false) (rw w.numbers-is)
     ]
-
-pub returns : goal.returns
-returns c =
-    let longs = c.longs-longs.result.now in
-    let trail = c.args.trail.now.entries in
-    let ended : drop c.loop-number.number-index longs ≡ [] = drop_of_length-le longs (c.loop-number-test.false) in
-    sym (c.loop-number.invariant ∙ ap (λ (xs : List ℕ). c.loop-number.numbers.items ++ filter (λ n. not (has_forced trail n)) xs) ended ∙ append-nil c.loop-number.numbers.items)

@@ -1,8 +1,6 @@
-use Rattle.std.proofs.Common.{◌++◌, ℕ, List, Bool, length, map, ap, sym, ◌∙◌, subst}
+use Rattle.std.proofs.Common.{List, Bool, length, ap, sym, subst}
 use Rattle.clause_base.specs.Clause.{IsRising}
-use Rattle.clause_base.specs.declared.log.Entry.TheVariants.{Drop}
-use Rattle.cdcl_rules.specs.Reduce.{kept_without}
-use Rattle.conflict_walk.specs.Clauses.{ClausesView, all_clauses}
+use Rattle.conflict_walk.specs.Clauses.{all_clauses}
 use Rattle.propagation.specs.Pending.{PropagatorView}
 use Rattle.cdcl_core.specs.Search.{AreKept}
 use Rattle.cdcl_core.proofs.Watching.{half_is, half_kept, half_rises, watched_drops}
@@ -21,12 +19,6 @@ forget-requires c =
     let k = ap (λ (w : PropagatorView). w.kept) c.requires in
     subst (λ (ks : List Bool). AreKept ks c.first_half-half.result.now) (sym k)
     (subst (AreKept v.kept) (sym e) (half_kept (length v.formula.clauses) (all_clauses v) v.kept c.args.propagator.now.entries))
-
-pub returns-clause-ok : goal.returns-clause-ok
-returns-clause-ok c =
-    let v = c.args.clauses.now in
-    let e = half_is v _ _ c.first_half-half.ensures c.as_slice.ensures.value c.in_ok-numbers.ensures c.trail.ensures in
-    c.in_ok-drop_all.ensures.ok ∙ ap (λ (ns : List ℕ). let x : ClausesView = record v { log = v.log ++ map (λ (n : ℕ). Drop n) ns; kept = kept_without v.kept ns } in x) e
 
 pub returns-clause-mirrored : goal.returns-clause-mirrored
 returns-clause-mirrored c =

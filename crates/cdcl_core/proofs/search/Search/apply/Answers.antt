@@ -1,8 +1,7 @@
-use Rattle.std.proofs.Common.{[], ap, subst, sym, ◌∙◌}
+use Rattle.std.proofs.Common.{[], subst, sym}
 use Rattle.clause_base.specs.Clause.{IsClause}
 use Rattle.cdcl_rules.specs.declared.event.Event.{Event}
 use Rattle.cdcl_rules.specs.declared.event.Event.TheVariants.{Conflict, Finish}
-use Rattle.cdcl_rules.specs.State.{State}
 use Rattle.cdcl_rules.specs.Learn.{learned, Learned}
 use Rattle.cdcl_rules.specs.Run.{with_learned, after_conflict}
 use Rattle.cdcl_rules.specs.Sound.{IsSound}
@@ -10,7 +9,6 @@ use Rattle.cdcl_rules.specs.Trail.{AllFalse}
 use Rattle.cdcl_core.specs.Search.{SearchView, IsNextEvent}
 use Rattle.cdcl_core.proofs.Keeps.{learned_same, learned_is_clause, learned_is_false, undropped_sound, next_sound}
 use Rattle.cdcl_core.proofs.Entries.{IsEntry, MayAssign, may_assign}
-use Rattle.cdcl_core.proofs.Logs.{goes_same, goes_err}
 use Rattle.cdcl_core.proofs.search.Search.apply.Goals as goal
 use Rattle.cdcl_core.proofs.search.Search.apply.Goals.{After-assign-arg-1, in-Force, in-Decide}
 
@@ -69,16 +67,8 @@ assign-requires-clause-opened c = (entry (goal.at.assign-requires-clause-opened 
 pub assign-requires-clause-sound : goal.assign-requires-clause-sound
 assign-requires-clause-sound c = (entry (goal.at.assign-requires-clause-sound c).After-assign-arg-1).sound
 
-pub returns-clause-ok : goal.returns-clause-ok
-returns-clause-ok c =
-    let v = c.args.self.now in
-    c.assign.ensures ∙ ap (λ (s : State). let x : SearchView = record v { state = s } in x) (sym (entry (goal.at.returns-clause-ok c).After-assign-arg-1).applied)
-
 pub finish-requires-clause-sound : goal.finish-requires-clause-sound
 finish-requires-clause-sound c =
     let v = c.args.self.now in
     let next = subst (IsNextEvent v.formula v.state) c.in-Finish.is c.requires.next in
     next_sound v.formula v.state Finish c.requires.sound c.requires.going next
-
-pub returns-in_err-learned-in-Conflict-clause-log : goal.returns-in_err-learned-in-Conflict-clause-log
-returns-in_err-learned-in-Conflict-clause-log c = goes_err c.from_residual.result (goes_same c.args.self.now.state.log c.learned.new.self.state.log (ap (λ (v : SearchView). v.state.log) c.in_err-learned-in-Conflict.ensures.err))

@@ -1,48 +1,16 @@
 use Rattle.std.proofs.Common.{◌≡◌, ◌==◌, ℕ, List, [], ◌++◌, length, map, refl, true, false, ap, sym, ◌∙◌, subst}
-use Rattle.clause_base.specs.Clause.{HasVariablesBelow}
 use Rattle.clause_base.specs.declared.log.Entry.TheVariants.{Drop}
 use Rattle.cdcl_rules.specs.declared.trail.Assigned.{Assigned}
-use Rattle.cdcl_rules.specs.Run.{after_conflict, with_learned, trail_after, dropped_after}
+use Rattle.cdcl_rules.specs.Run.{with_learned, trail_after, dropped_after}
 use Rattle.cdcl_rules.specs.Reduce.{candidates, first_half, kept_without}
-use Rattle.cdcl_rules.proofs.Fuel.{all_below}
 use Rattle.conflict_walk.specs.Clauses.{ClausesView, all_clauses}
 use Rattle.cdcl_rules.specs.Learn.{backtracked}
-use Rattle.cdcl_core.specs.Search.{SearchView, GoesOn, IsKept, watched, level_after}
+use Rattle.cdcl_core.specs.Search.{SearchView, IsKept, watched, level_after}
 use Rattle.propagation.specs.Pending.{PropagatorView}
-use Rattle.cdcl_core.proofs.Watching.{search_of, watched_going, watched_learned, watched_now, last_below}
+use Rattle.cdcl_core.proofs.Watching.{search_of, watched_going, watched_learned}
 use Rattle.cdcl_core.proofs.Entered.{entered_clauses, entered, gone_back, dropped_none, dropped_half, dropped_clauses}
-use Rattle.cdcl_core.proofs.Logs.{goes_same, goes_then, goes_learned, goes_err}
 use Rattle.cdcl_core.proofs.search.Search.enter.Goals as goal
 use Rattle.cdcl_core.proofs.search.Search.enter.Goals.{In_ok-add_sorted, then-is_restart+in_ok-reduce, else-is_restart}
-
-pub add_sorted-requires-clause-below : goal.add_sorted-requires-clause-below
-add_sorted-requires-clause-below c =
-    let t = c.self.inside in
-    let s = c.args.self.now.state in
-    let k = c.args.new.lits in
-    let all = all_below c.args.self.now.formula (after_conflict s (record { clause = k; hints = c.args.new.hints }) []) c.requires.undropped in
-    let below = subst (λ (v : SearchView). HasVariablesBelow v.state.variables k) (sym c.self.view_is) (last_below s.variables s.clauses k all) in
-    let over = ap (λ (v : PropagatorView). v.variables) c.backtrack.ensures ∙ c.self.invariant.over in
-    subst (λ (n : ℕ). HasVariablesBelow n k) (sym over) below
-
-pub returns-in_err-learn-clause-log : goal.returns-in_err-learn-clause-log
-returns-in_err-learn-clause-log c =
-    let t = c.self.inside in
-    goes_err c.from_residual.result
-    (subst (λ (v : SearchView). GoesOn v.state.log c.learn.new.self.log) c.self.view_is (goes_same t.clauses.log c.learn.new.self.log (ap (λ (v : ClausesView). v.log) c.in_err-learn.ensures.err)))
-
-pub returns-in_err-add_sorted-clause-log : goal.returns-in_err-add_sorted-clause-log
-returns-in_err-add_sorted-clause-log c =
-    let t = c.self.inside in
-    goes_err c.from_residual-in_err-add_sorted.result
-    (subst (λ (v : SearchView). GoesOn v.state.log c.learn.new.self.log) c.self.view_is (goes_learned t.clauses c.learn.new.self _ _ c.in_ok-learn.ensures.ok))
-
-pub returns-in_err-reduce-clause-log : goal.returns-in_err-reduce-clause-log
-returns-in_err-reduce-clause-log c =
-    let t = c.self.inside in
-    let learned = goes_learned t.clauses c.learn.new.self _ _ c.in_ok-learn.ensures.ok in
-    goes_err c.from_residual-in_err-reduce.result
-    (subst (λ (v : SearchView). GoesOn v.state.log c.reduce.new.clauses.log) c.self.view_is (goes_then t.clauses.log c.learn.new.self.log c.reduce.new.clauses.log learned (goes_same c.learn.new.self.log c.reduce.new.clauses.log (ap (λ (v : ClausesView). v.log) c.in_err-reduce.ensures.err))))
 
 -- the trail that is left, before clauses are dropped
 abbrev left : In_ok-add_sorted → List Assigned
@@ -63,11 +31,6 @@ watch c =
     let t = c.self.inside in
     let m = watched_going c.self.invariant c.self.view_is c.requires.sane c.requires.going in
     watched_learned t.clauses c.learn.new.self t.propagator.entries (left c) t.propagator c.backtrack.new.self c.add_sorted.new.self c.args.new.lits c.as_slice.result.now m c.in_ok-learn.ensures.ok c.backtrack.ensures c.in_ok-add_sorted.ensures.ok
-
-pub reduce-requires : goal.reduce-requires
-reduce-requires c =
-    let at = (goal.at.reduce-requires c).In_ok-add_sorted in
-    watched_now c.learn.new.self c.add_sorted.new.self (left at) (watch at)
 
 back : (c : In_ok-add_sorted) → left c ≡ trail_after c.args.self.now.state c.args.new.lits
 back c =
@@ -114,12 +77,4 @@ invariant_of-self-2 c =
     elim c.if-is_restart.branch [
       | then-is_restart+in_ok-reduce w ↦ rw (w.self-inside-is) (restarted at w.reduce.new.clauses w.reduce.new.propagator w.if-is_restart.true w.in_ok-reduce.ensures.ok w.in_ok-reduce.ensures.mirrored).0
       | else-is_restart w ↦ rw (w.self-inside-is) (unrestarted at w.if-is_restart.false).0
-    ]
-
-pub returns-clause-ok : goal.returns-clause-ok
-returns-clause-ok c =
-    let at = (goal.at.returns-clause-ok c).In_ok-add_sorted in
-    elim c.if-is_restart.branch [
-      | then-is_restart+in_ok-reduce w ↦ rw (w.self-inside-is) (restarted at w.reduce.new.clauses w.reduce.new.propagator w.if-is_restart.true w.in_ok-reduce.ensures.ok w.in_ok-reduce.ensures.mirrored).1
-      | else-is_restart w ↦ rw (w.self-inside-is) (unrestarted at w.if-is_restart.false).1
     ]

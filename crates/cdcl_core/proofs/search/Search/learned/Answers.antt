@@ -1,25 +1,16 @@
-use Rattle.std.proofs.Common.{◌∙◌, ◌<◌, ℕ, List, length, ap, subst, sym}
+use Rattle.std.proofs.Common.{◌∙◌, ◌<◌, ℕ, List, length, subst, sym}
 use Rattle.cdcl_rules.specs.declared.event.Event.TheVariants.{Conflict}
 use Rattle.clause_base.specs.Clause.{IsRising}
 use Rattle.cdcl_rules.specs.State.{clause_at}
 use Rattle.cdcl_rules.specs.Trail.{AllFalse}
-use Rattle.cdcl_rules.specs.Learn.{Learned}
 use Rattle.cdcl_trail.specs.Mirrored.{TrailView}
-use Rattle.conflict_walk.specs.Analysis.{IsReady}
 use Rattle.conflict_walk.specs.Clauses.{all_clauses}
 use Rattle.conflict_walk.specs.Walk.{IsReasoned}
 use Rattle.cdcl_core.specs.Search.{SearchView, IsNextEvent, state_of}
-use Rattle.cdcl_core.proofs.Keeps.{conflict_is, learned_is}
+use Rattle.cdcl_core.proofs.Keeps.{conflict_is}
 use Rattle.cdcl_core.proofs.Watching.{watched_all}
 use Rattle.cdcl_core.proofs.Reasons.{sound_reasoned}
 use Rattle.cdcl_core.proofs.search.Search.learned.Goals as goal
-
-pub learn-requires-clause-ready : goal.learn-requires-clause-ready
-learn-requires-clause-ready c =
-    let t = c.self.inside in
-    let sane = ap (λ (v : SearchView). v.spoilt) c.self.view_is ∙ c.requires.sane in
-    let over = ap (λ (v : TrailView). v.variables) c.trail.ensures ∙ c.self.invariant.over in
-    subst (λ (n : ℕ). IsReady n t.analysis) (sym over) (c.self.invariant.ready sane)
 
 pub learn-requires-clause-reasoned : goal.learn-requires-clause-reasoned
 learn-requires-clause-reasoned c =
@@ -50,13 +41,3 @@ learn-requires-clause-all_false c =
     let next = subst (λ (w : SearchView). IsNextEvent w.formula w.state (Conflict c.args.number)) (sym c.self.view_is) c.requires.next in
     subst (λ (cs : List (List ℕ)). AllFalse c.trail.result.now.entries (clause_at cs c.args.number)) (sym all)
     (subst (λ (v : TrailView). AllFalse v.entries (clause_at (all_clauses t.clauses) c.args.number)) (sym c.trail.ensures) (conflict_is t.clauses.formula (state_of t.clauses t.propagator.entries t.standing) c.args.number c.self.invariant.sound next).all_false)
-
-pub returns-clause-clause : goal.returns-clause-clause
-returns-clause-clause c =
-    let all = c.store.ensures ∙ watched_all c.self.invariant c.self.view_is c.requires.sane c.requires.going in
-    c.in_ok-learned.ensures.clause ∙ learned_is (λ (l : Learned). l.clause) c.args.number all c.trail.ensures c.self.view_is
-
-pub returns-clause-hints : goal.returns-clause-hints
-returns-clause-hints c =
-    let all = c.store.ensures ∙ watched_all c.self.invariant c.self.view_is c.requires.sane c.requires.going in
-    c.in_ok-learned.ensures.hints ∙ learned_is (λ (l : Learned). l.hints) c.args.number all c.trail.ensures c.self.view_is

@@ -1,4 +1,4 @@
-use Rattle.std.proofs.Common.{◌≤◌, ◌+◌, refl, sym, subst, Result, Ok, Err, OnOk}
+use Rattle.std.proofs.Common.{◌≤◌, ◌+◌, sym, subst, Result, Ok, Err, OnOk}
 use Rattle.cdcl_rules.specs.State.{State}
 use Rattle.cdcl_rules.specs.Open.{Opens}
 use Rattle.cdcl_rules.specs.Sound.{IsSound}
@@ -8,7 +8,6 @@ use Rattle.cdcl_rules.proofs.Stops.{grants, rests_always}
 use Rattle.cdcl_rules.specs.Laws.{AddsUp, ComesToRestAlways, Grants}
 use Rattle.cdcl_core.specs.Between.{IsShortBetween}
 use Rattle.cdcl_core.specs.Search.{SolverView}
-use Rattle.cdcl_core.proofs.Logs.{goes_same}
 use Rattle.cdcl_core.proofs.Shorts.{short_between}
 use Rattle.cdcl_core.proofs.solver.Solver.advance.Given as given
 use Rattle.cdcl_core.proofs.solver.Solver.advance.Goals as goal
@@ -80,9 +79,3 @@ returns-then-is_spoilt-clause-short g c = short g (goal.at.returns-then-is_spoil
 
 pub returns-clause-short : goal.returns-clause-short
 returns-clause-short g c = short g (goal.at.returns-clause-short g c).After-conflicts-sound
-
-pub returns-then-is_spoilt-clause-log : goal.returns-then-is_spoilt-clause-log
-returns-then-is_spoilt-clause-log g c = goes_same c.args.self.now.state.log c.args.self.now.state.log refl
-
-pub returns-clause-log : goal.returns-clause-log
-returns-clause-log g c = c.run.ensures.log

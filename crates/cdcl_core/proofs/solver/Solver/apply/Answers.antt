@@ -1,16 +1,9 @@
-use Rattle.std.proofs.Common.{arith, ◌≡◌, ◌∙◌, List, true, false, length, ap, sym, subst, refl, OnErr}
+use Rattle.std.proofs.Common.{arith, ◌≡◌, ◌∙◌, List, true, length, ap, sym, subst}
 use Rattle.clause_base.specs.Formula.{Cnf}
 use Rattle.cdcl_rules.specs.declared.trail.Assigned.{Assigned}
 use Rattle.cdcl_rules.specs.Run.{is_conflict}
-use Rattle.cdcl_core.specs.Search.{SolverView, GoesOn}
 use Rattle.cdcl_core.proofs.Told.{told_on}
 use Rattle.cdcl_core.proofs.solver.Solver.apply.Goals as goal
-
-pub returns-then-takes_back-clause-log : goal.returns-then-takes_back-clause-log
-returns-then-takes_back-clause-log g c = subst (λ (v : SolverView g.row.C.Denot). OnErr c.apply-done.result (GoesOn v.state.log c.apply-done.new.self.state.log)) c.self.view_is c.apply-done.ensures.log
-
-pub returns-else-takes_back-clause-log : goal.returns-else-takes_back-clause-log
-returns-else-takes_back-clause-log g c = subst (λ (v : SolverView g.row.C.Denot). OnErr c.apply-done.result (GoesOn v.state.log c.apply-done.new.self.state.log)) c.self.view_is c.apply-done.ensures.log
 
 pub invariant_of-self : goal.invariant_of-self
 invariant_of-self g c =
@@ -18,11 +11,4 @@ invariant_of-self g c =
     let back : is_conflict c.args.event ≡ true = sym c.is_conflict-takes_back.ensures ∙ c.if-takes_back.true in (
       subst (λ (f : Cnf). g.C.Chooser.fits c.self.inside.chooser f.variables) (sym c.apply-done.ensures.formula) c.self.invariant.0,
       told_on (g.C.Chooser.knows c.self.inside.chooser c.self.inside.told) c.self.inside.kept _ c.args.event c.self.inside.search c.apply-done.new.self c.apply-done.result c.apply-done.ensures.ok c.apply-done.ensures.spoilt (rw back (omega (arith, long))) c.self.invariant.1,
-    )
-
-pub invariant_of-self-else-takes_back : goal.invariant_of-self-else-takes_back
-invariant_of-self-else-takes_back g c =
-    let back : is_conflict c.args.event ≡ false = sym c.is_conflict-takes_back.ensures ∙ c.if-takes_back.false in (
-      subst (λ (f : Cnf). g.C.Chooser.fits c.self.inside.chooser f.variables) (sym c.apply-done.ensures.formula) c.self.invariant.0,
-      told_on (g.C.Chooser.knows c.self.inside.chooser c.self.inside.told) c.self.inside.kept c.self.inside.kept c.args.event c.self.inside.search c.apply-done.new.self c.apply-done.result c.apply-done.ensures.ok c.apply-done.ensures.spoilt (rw back refl) c.self.invariant.1,
     )

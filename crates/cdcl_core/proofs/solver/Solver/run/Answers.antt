@@ -1,45 +1,12 @@
-use Rattle.std.proofs.Common.{arith, ◌≡◌, ℕ, ◌+◌, ◌&&◌, nat_le, sym, ◌∙◌, ap, subst, false, true}
-use Rattle.cdcl_rules.specs.Machine.{ComesToRest}
+use Rattle.std.proofs.Common.{◌≡◌, ◌+◌, ◌&&◌, nat_le, sym, ◌∙◌, ap, subst, false, true}
 use Rattle.cdcl_rules.specs.Event.{event_of}
-use Rattle.cdcl_rules.specs.Run.{next, rests, apply, is_going, is_conflict}
-use Rattle.cdcl_rules.proofs.Advance.{one_on, rests_here, rests_settled, conflicts_stay, conflict_below}
+use Rattle.cdcl_rules.specs.Run.{apply, is_going, is_conflict}
+use Rattle.cdcl_rules.proofs.Advance.{one_on, conflicts_stay, conflict_below}
 use Rattle.cdcl_rules.proofs.Fuel.{left_falls}
-use Rattle.cdcl_core.specs.Search.{SolverView, IsNextEvent, MayApply, GoesOn}
+use Rattle.cdcl_core.specs.Search.{SolverView, IsNextEvent, GoesOn}
 use Rattle.cdcl_core.proofs.Keeps.{next_open}
 use Rattle.cdcl_core.proofs.Logs.{goes_then, goes_reached, goes_err}
 use Rattle.cdcl_core.proofs.solver.Solver.run.Goals as goal
-
-pub apply-requires : goal.apply-requires
-apply-requires g c =
-    let limit = c.conflicts.result + c.args.conflicts in
-    let v = c.loop-self.self in
-    let s = v.state in
-    let e = c.event-event.result in
-    let kept = c.event-event.ensures.kept in
-    let wait : (is_conflict e && nat_le limit s.conflicts) ≡ false =
-    ap (λ (w : SolverView g.row.C.Denot). is_conflict e && nat_le limit w.state.conflicts) (sym kept) ∙ sym c.waits.ensures ∙ c.if-waits.false in
-    let may : MayApply v.formula s v.spoilt e = record {
-      sane = c.loop-self.invariant.sane;
-      going = sym c.is_going.ensures ∙ c.loop-self-test.true;
-      sound = c.event-event.ensures.sound;
-      room = λ h. let below = conflict_below e limit s.conflicts wait h in omega (arith, below, c.conflicts.ensures.value, c.requires.room);
-      next = (g.C.Chooser.choice v.chooser, c.event-event.ensures.opens, c.event-event.ensures.event);
-    } in
-    subst (λ (w : SolverView g.row.C.Denot). MayApply w.formula w.state w.spoilt e) (sym kept) may
-
-pub returns-then-waits-clause-after : goal.returns-then-waits-clause-after
-returns-then-waits-clause-after g c =
-    let choose = g.C.Chooser.choice c.args.self.now.chooser in
-    let limit = c.conflicts.result + c.args.conflicts in
-    let s = c.loop-self.self.state in
-    let e = c.event-event.result in
-    let kept = c.event-event.ensures.kept in
-    let is : e ≡ event_of choose s = c.event-event.ensures.event ∙ ap (λ (k : g.row.C.Denot). event_of (g.C.Chooser.choice k) s) c.loop-self.invariant.chooser in
-    let wait : (is_conflict e && nat_le limit s.conflicts) ≡ true =
-    ap (λ (w : SolverView g.row.C.Denot). is_conflict e && nat_le limit w.state.conflicts) (sym kept) ∙ sym c.waits.ensures ∙ c.if-waits.true in
-    let r = rests_here choose limit c.args.self.now.state s e c.loop-self.invariant.reached is wait in
-    let t = subst (λ (w : SolverView g.row.C.Denot). ComesToRest (next choose) (rests choose) limit c.args.self.now.state w.state) (sym kept) r in
-    subst (λ (n : ℕ). ComesToRest (next choose) (rests choose) (n + c.args.conflicts) c.args.self.now.state c.event-event.new.self.state) c.conflicts.ensures.value t
 
 pub loop-self-smaller : goal.loop-self-smaller
 loop-self-smaller g c =
@@ -78,14 +45,6 @@ loop-self-preserved g c =
       sane = ap (λ (w : SolverView g.row.C.Denot). w.spoilt) ok ∙ ap (λ (w : SolverView g.row.C.Denot). w.spoilt) kept ∙ c.loop-self.invariant.sane;
       within = rw made (conflicts_stay s e limit c.loop-self.invariant.within wait);
     }
-
-pub returns-clause-after : goal.returns-clause-after
-returns-clause-after g c =
-    let choose = g.C.Chooser.choice c.args.self.now.chooser in
-    let limit = c.conflicts.result + c.args.conflicts in
-    let done : is_going c.loop-self.self.state.standing ≡ false = sym c.is_going.ensures ∙ c.loop-self-test.false in
-    let r = rests_settled choose limit c.args.self.now.state c.loop-self.self.state c.loop-self.invariant.reached done in
-    subst (λ (n : ℕ). ComesToRest (next choose) (rests choose) (n + c.args.conflicts) c.args.self.now.state c.loop-self.self.state) c.conflicts.ensures.value r
 
 pub returns-in_err-apply-clause-log : goal.returns-in_err-apply-clause-log
 returns-in_err-apply-clause-log g c =
