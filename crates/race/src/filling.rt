@@ -99,6 +99,7 @@ impl Filling {
         ensures started { OnOk result (race_state (racing_of self.new) ≡ started input horizon (race_state (racing_of self.old))) }
         ensures books { OnOk result (KeepsBooks (racing_of self.old) (racing_of self.new)) }
     {
+        // For the proof: the run is that of a horizon of this form.
         let _form = form;
         // For the proof: the run is where so many conflicts have it.
         run.keeps_laws();
