@@ -12,6 +12,7 @@
 ghost use Rattle.std.specs.Prelude.{◌≡◌, ℕ, ◌+◌, ◌≤◌, true, false, OnOk, OnErr, IfSome};
 ghost use Rattle.cdcl_rules.specs.Run.{after};
 ghost use Rattle.horizon_run.specs.Run.{choice_in, moved_to, AddsUp, IsMoved, IsReached, Stays};
+ghost use Rattle.horizon_run.specs.Resume.{origin};
 ghost use Rattle.horizon_run.specs.Seen.{IsMarkOf};
 
 use crate::HorizonRun;
@@ -196,7 +197,7 @@ impl AheadRun {
     fn handle_ahead(&mut self, target: u64) -> bool
         requires { target ≤ 1073741824 }
         ensures formula { self.new.formula ≡ self.old.formula }
-        ensures means { self.new.means ≡ self.old.means }
+        ensures origin { origin self.new ≡ origin self.old }
         ensures granted { self.new.granted ≡ self.old.granted }
         ensures same { self.new.spoilt ≡ false → self.new ≡ self.old }
     {
@@ -209,7 +210,7 @@ impl AheadRun {
     /// Has the solver handle a conflict more, where it may be that far ahead. Says whether it did.
     pub(crate) fn go_ahead(&mut self) -> bool
         ensures formula { self.new.formula ≡ self.old.formula }
-        ensures means { self.new.means ≡ self.old.means }
+        ensures origin { origin self.new ≡ origin self.old }
         ensures granted { self.new.granted ≡ self.old.granted }
         ensures same { self.new.spoilt ≡ false → self.new ≡ self.old }
     {

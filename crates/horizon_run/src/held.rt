@@ -5,8 +5,8 @@ ghost use Rattle.horizon_run.specs.{Held.lost_of, Held.run_in, Held.HasLaws, Hel
 
 use crate::lost::Lost;
 use crate::{AheadRun, HorizonRun, Unmade};
+use cdcl_rules::standing::Standing;
 use clause_base::memory::Memory;
-use solver_pool::Resume;
 use std::alloc::Global;
 use std::mem;
 
@@ -102,7 +102,7 @@ impl Held {
                 run.keeps_laws();
                 true
             }
-            Held::Made(run) => run.granted() == 0 || run.unsettled(),
+            Held::Made(run) => run.granted() == 0 || matches!(run.standing(), Standing::Going),
             Held::Lost(_) => true,
         }
     }

@@ -15,7 +15,6 @@
 #![tactic(auto)]
 
 mod ahead;
-mod ahead_resume;
 mod held;
 mod lost;
 mod resume;

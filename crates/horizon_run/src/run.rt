@@ -2,7 +2,6 @@ ghost use Rattle.std.specs.Prelude.{◌≡◌, ℕ, ◌+◌, ◌≤◌, ◌<◌,
 ghost use Rattle.clause_base.specs.{Formula.IsModel, Derivation.IsRefutation, Derivation.IsDerivation};
 ghost use Rattle.cdcl_rules.specs.{State.value_of, Run.after};
 ghost use Rattle.cdcl_rules.specs.Sound.{made_true};
-ghost use Rattle.goal_choice.specs.Means.{gathered_of};
 ghost use Rattle.rup_check.specs.Certificate.{Certifies};
 ghost use Rattle.step_encoding.specs.{Limits.planner_literals, Numbers.literals_of};
 ghost use Rattle.horizon_run.specs.Run.{choice_in, choice_of, moved_to, truths_of, IsMoved, IsNew, IsReached, AddsUp, Stays};
@@ -67,24 +66,7 @@ impl HorizonRun {
         ensures choice { IfOk result (λ run. choice_in run ≡ choice_of task.now (F.layout_of form.now n)) }
     {
         let supporters = Supporters::new(alloc, task)?;
-        HorizonRun::sharing(alloc, &supporters, form, n)
-    }
-
-    /// The run of a horizon before its first conflict, as `new` makes it, over supporters that the runs of other horizons share.
-    pub fn sharing<F: StepForm>(
-        alloc: Global,
-        supporters: &Supporters,
-        form: &F,
-        n: u32,
-    ) -> Result<HorizonRun, Memory>
-        requires supporters { supporters.now ≡ gathered_of (F.task form.now) }
-        requires horizon { n ≤ 255 }
-        requires size { literals_of (F.formula_of form.now n) ≤ planner_literals }
-        ensures start { IfOk result (λ run. IsNew run) }
-        ensures formula { IfOk result (λ run. run.formula ≡ F.formula_of form.now n) }
-        ensures choice { IfOk result (λ run. choice_in run ≡ choice_of (F.task form.now) (F.layout_of form.now n)) }
-    {
-        Unmade::sharing(alloc, supporters, form, n)?.made(alloc, None)
+        Unmade::sharing(alloc, &supporters, form, n)?.made(alloc, None)
     }
 
     /// Its solver, whose tables the next run may use.

@@ -27,6 +27,27 @@ fn is_ahead(run: &HorizonRun, granted: u64) -> bool
 }
 
 impl AheadRun {
+    /// Its horizon.
+    pub fn horizon(&self) -> u32
+        ensures { result ≡ self.now.formula.name }
+    {
+        self.run.horizon()
+    }
+
+    /// Whether it found no memory once.
+    pub fn spoilt(&self) -> bool
+        ensures { result ≡ self.now.spoilt }
+    {
+        self.run.spoilt()
+    }
+
+    /// How many conflicts it was granted.
+    pub fn granted(&self) -> u64
+        ensures { result ≡ self.now.granted }
+    {
+        self.granted
+    }
+
     /// How far it is.
     pub fn standing(&self) -> Standing
         ensures value { result ≡ self.now.state.standing }

@@ -8,7 +8,6 @@ use crate::held::{Held, take};
 use crate::{AheadRun, HorizonRun, Unmade};
 use clause_base::memory::Memory;
 use containers::let_go;
-use solver_pool::Resume;
 use std::alloc::Global;
 use std::marker::Model;
 

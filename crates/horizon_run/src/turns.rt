@@ -47,7 +47,7 @@ impl Resume for Started {
 
     fn work_ahead(&mut self) -> bool {
         match &mut self.held {
-            Held::Made(run) => run.work_ahead(),
+            Held::Made(run) => run.go_ahead(),
             _ => false,
         }
     }

@@ -2,7 +2,7 @@
 use Rattle.std.proofs.Common.{◌≡◌, ℕ, ◌+◌, false, List, ◌∷◌, Option, Some, None, inl, inr, refl, sym, ap, ◌∙◌, subst}
 use Rattle.std.specs.Option.{IsSomeAnd}
 use Rattle.horizon_run.specs.Run.{RunView, moved_to}
-use Rattle.horizon_run.specs.contracts.ahead_resume.AheadRunResume.TheImpl.{ghosts}
+use Rattle.horizon_run.specs.contracts.turns.StartedResume.TheImpl.{ghosts}
 use Rattle.poll_run.specs.PolledRun.{next_granted}
 use Rattle.poll_run.specs.Polls.{Polling, GoesNext, Spends}
 use Rattle.poll_batch.specs.declared.work.Work.{Work}

@@ -2,7 +2,7 @@
 use Rattle.std.proofs.Common.{◌≡◌, ℕ, List, [], ◌∷◌, ◌++◌, Option, Some, None, append_assoc, refl, sym, ap, ◌∙◌, subst}
 use Rattle.std.specs.Option.{IsSomeAnd}
 use Rattle.horizon_run.specs.Run.{RunView, moved_to}
-use Rattle.horizon_run.specs.contracts.ahead_resume.AheadRunResume.TheImpl.{ghosts}
+use Rattle.horizon_run.specs.contracts.turns.StartedResume.TheImpl.{ghosts}
 use Rattle.poll_run.specs.Polls.{IsSame, GoesNext}
 use Rattle.race.specs.declared.begun.Begun.{Begun}
 use Rattle.race.specs.Begun.{HasRun}

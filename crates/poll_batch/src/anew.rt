@@ -46,7 +46,7 @@ pub(crate) fn kept_of<'a, F: StepForm>(
 }
 
 /// Runs each race by `race`, with one worker.
-pub(crate) fn run_anew<F: StepForm + Sync, H: Threads + Wait + Sync>(
+pub(crate) fn run_anew<F: StepForm, H: Threads + Wait + Sync>(
     rt: &H,
     alloc: Global,
     kept: &[Kept<'_, F>],

@@ -26,7 +26,7 @@ pub type Ends = ListOf<Result<RaceEnd, RaceError>>;
 /// has each place of the list once, counted from 0. `Ok` gives the ends in the order of the list, each that of the defined race,
 /// for every slice, every `turns` and every driver: where the driver fails, each race is run anew by `race`, with one worker. It
 /// may wait.
-pub fn batch_race<'a, F: StepForm + Sync, D: Driver, H: Threads + Wait + Sync>(
+pub fn batch_race<'a, F: StepForm, D: Driver, H: Threads + Wait + Sync>(
     rt: &H,
     alloc: Global,
     driver: &mut D,

@@ -10,7 +10,7 @@ use clause_base::memory::Memory;
 use futures::Future;
 use futures::task::{Context, Poll};
 use horizon_rates::Settings;
-use horizon_run::AheadRun;
+use horizon_run::{AheadRun, Started};
 use race::{Begun, with_all_granted};
 use solver_pool::{Job, Resume};
 use step_encoding::form::StepForm;
@@ -24,8 +24,8 @@ pub(crate) struct Round {
     pub(crate) works: Vec<Work>,
 }
 
-/// A run that was given, with all of its target granted.
-fn finished(run: AheadRun, target: u64) -> Result<AheadRun, Memory>
+/// A run that was given, made, with all of its target granted.
+fn finished(run: Started, target: u64) -> Result<AheadRun, Memory>
     requires within { run.spoilt ≡ false → run.granted ≤ target }
     requires target { target ≤ 1073741824 }
     ensures at_target { IfOk result (λ end. end ≡ moved_to run target) }

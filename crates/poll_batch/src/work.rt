@@ -5,7 +5,7 @@ ghost use Rattle.race.specs.Runs.{run_at};
 ghost use Rattle.poll_batch.specs.Works.{at_targets, AreAtWork};
 
 use clause_base::memory::Memory;
-use horizon_run::AheadRun;
+use horizon_run::Started;
 use poll_run::PollRun;
 use solver_pool::{Job, Resume};
 use std::alloc::Global;
@@ -13,14 +13,14 @@ use std::alloc::Global;
 /// A run of this round, and how many conflicts it was granted before.
 #[derive(Drop)]
 pub(crate) struct Work {
-    pub(crate) poll: PollRun<AheadRun>,
+    pub(crate) poll: PollRun<Started>,
     pub(crate) before: u64,
 }
 
 /// A poll for each job, up to its target.
 pub(crate) fn works_of(
     alloc: Global,
-    jobs: Vec<Job<AheadRun>>,
+    jobs: Vec<Job<Started>>,
     slice: u32,
 ) -> Result<Vec<Work>, Memory>
     requires sound { AllByRecursion (λ job. job.run.spoilt ≡ false) jobs.items }

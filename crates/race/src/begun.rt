@@ -11,7 +11,7 @@ use crate::racing::{Racing, Step};
 use crate::work::conflicts_of;
 use clause_base::memory::Memory;
 use horizon_rates::{Ledger, Settings, Window};
-use horizon_run::AheadRun;
+use horizon_run::{AheadRun, Started};
 use race_end::Line;
 use std::alloc::Global;
 use step_encoding::form::StepForm;
@@ -40,8 +40,8 @@ pub struct Begun {
 pub struct Opening {
     /// The rest of the race.
     pub begun: Begun,
-    /// The runs of the live horizons, rising.
-    pub runs: Vec<AheadRun>,
+    /// The runs of the live horizons, rising. Those of the horizons that start are made in the first turn that advances them.
+    pub runs: Vec<Started>,
     /// How many conflicts each run is granted.
     pub grants: Vec<u32>,
 }

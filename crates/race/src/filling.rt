@@ -8,7 +8,7 @@ ghost use Rattle.horizon_run.specs.Run.{choice_of};
 ghost use Rattle.race.specs.{Begun.IsGranted, Fresh.IsFreshOf, Input.RaceInput, Runs.conflicts_of, Runs.AreLow, Runs.MayAdvance};
 ghost use Rattle.race.specs.{Filling.racing_of, Filling.IsSame, Starts.started, Starts.fitting, Starts.filled, Starts.too_large, Tied.race_state, Tied.IsTied, Tied.KeepsBooks};
 
-use crate::begun::Begun;
+use crate::begun::{Begun, Opening};
 use crate::fresh::fresh_run;
 use crate::grant::grant_all;
 use crate::racing::Racing;
@@ -33,14 +33,6 @@ pub(crate) struct Filling {
     pub(crate) lines: Vec<Line>,
     pub(crate) rounds: u64,
     pub(crate) ended: Vec<HorizonRun>,
-}
-
-/// A round as it begins, with runs that need not be made.
-#[derive(Drop)]
-pub(crate) struct Opened {
-    pub(crate) begun: Begun,
-    pub(crate) runs: Vec<Started>,
-    pub(crate) grants: Vec<u32>,
 }
 
 impl Filling {
@@ -107,6 +99,7 @@ impl Filling {
         ensures started { OnOk result (race_state (racing_of self.new) ≡ started input horizon (race_state (racing_of self.old))) }
         ensures books { OnOk result (KeepsBooks (racing_of self.old) (racing_of self.new)) }
     {
+        // For the proof: the run is that of a horizon of this form.
         let _form = form;
         // For the proof: the run is where so many conflicts have it.
         run.keeps_laws();
@@ -160,7 +153,7 @@ impl Filling {
     }
 
     /// Sets aside what each run may use. The runs have handled so many conflicts together.
-    pub(crate) fn grant(self, alloc: Global, rates: &Rates, used: u64) -> Result<Opened, Memory>
+    pub(crate) fn grant(self, alloc: Global, rates: &Rates, used: u64) -> Result<Opening, Memory>
         ghost input: { RaceInput }
         requires tied { IsTied input (racing_of self) }
         requires low { AreLow self.runs.items }
@@ -192,7 +185,7 @@ impl Filling {
             granted,
             used,
         };
-        Ok(Opened {
+        Ok(Opening {
             begun,
             runs,
             grants,

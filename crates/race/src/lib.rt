@@ -13,7 +13,8 @@
 //! ```
 //!
 //! A caller that advances the runs of a round itself, as one that polls them, has a round in three parts: [`Racing::begin`], its
-//! own work, and [`Begun::end`]. [`race`] goes round by the same two.
+//! own work, and [`Begun::end`]. [`race`] begins a round over supporters that it makes once, has workers advance the runs, and ends it by the
+//! same `end`.
 #![tactic(auto)]
 
 mod begun;

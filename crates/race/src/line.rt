@@ -7,7 +7,6 @@ use cdcl_rules::standing::Standing;
 use clause_base::memory::Memory;
 use horizon_run::AheadRun;
 use race_end::{Line, LineEnd};
-use solver_pool::Resume;
 use std::alloc::Global;
 
 /// The line of a run that ended so.

@@ -18,7 +18,6 @@ use clause_base::memory::Memory;
 use horizon_rates::{Ledger, Settings, Window};
 use horizon_run::{AheadRun, HorizonRun};
 use race_end::{Line, Lines, RaceEnd};
-use solver_pool::Resume;
 use std::alloc::Global;
 use step_encoding::form::StepForm;
 

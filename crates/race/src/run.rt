@@ -11,8 +11,8 @@ ghost use Rattle.race.specs.Ends.{AreStepsOf, SumsWithin, WherePlanned, AreActio
 ghost use Rattle.race.specs.Begun.{Comes, TellsLarge};
 ghost use Rattle.race.specs.Tied.{IsBetween};
 
+use crate::begun::Opening;
 use crate::error::RaceError;
-use crate::filling::Opened;
 use crate::racing::{Racing, Step};
 use crate::work::advance_all;
 use goal_choice::Supporters;
@@ -27,7 +27,7 @@ use step_encoding::form::StepForm;
 
 impl Racing {
     /// One round: it begins, workers make the runs of its new horizons and advance all, and it ends.
-    fn round<F: StepForm + Sync, G: Gate, H: Threads + Wait + Sync>(
+    fn round<F: StepForm, G: Gate, H: Threads + Wait + Sync>(
         self,
         rt: &H,
         alloc: Global,
@@ -43,7 +43,7 @@ impl Racing {
         ensures comes { IfOk result (Comes F.StepForm form.now settings.now (self.rounds + 1)) }
         ensures large { IfErr result (TellsLarge (input_of F.StepForm form.now settings.now)) }
     {
-        let Opened {
+        let Opening {
             begun,
             runs,
             grants,
@@ -59,7 +59,7 @@ impl Racing {
 ///
 /// `Literals` comes where no horizon is live and the formula of the next listed one, which is told with how many literals that has,
 /// is too large: so each listed horizon below it is refuted or dropped. `Memory` is want of memory, and nothing else.
-pub fn race<F: StepForm + Sync, G: Gate, H: Threads + Wait + Sync>(
+pub fn race<F: StepForm, G: Gate, H: Threads + Wait + Sync>(
     rt: &H,
     alloc: Global,
     task: &Task,

@@ -7,9 +7,8 @@ ghost use Rattle.race.specs.{Begun.IsBegun, Begun.TellsLarge, Input.RaceInput, I
 
 use crate::begun::Opening;
 use crate::error::RaceError;
-use crate::filling::{Filling, Opened};
+use crate::filling::Filling;
 use crate::racing::Racing;
-use crate::work::made_all;
 use goal_choice::Supporters;
 use gt_core::task::Task;
 use horizon_rates::Settings;
@@ -25,7 +24,7 @@ impl Racing {
         supporters: Option<&Supporters>,
         form: &F,
         settings: &Settings,
-    ) -> Result<Opened, RaceError>
+    ) -> Result<Opening, RaceError>
         ghost input: { RaceInput }
         requires between { IsBetween input self }
         requires rates { input.rates ≡ settings.now.rates }
@@ -67,16 +66,6 @@ impl Racing {
         ensures out { IfOk result (λ o. MayAdvance o.runs.items o.grants.items) }
         ensures large { IfErr result (TellsLarge (input_of F.StepForm form.now settings.now)) }
     {
-        let Opened {
-            begun,
-            runs,
-            grants,
-        } = self.open(alloc, task, None, form, settings)?;
-        let runs = made_all(alloc, runs)?;
-        Ok(Opening {
-            begun,
-            runs,
-            grants,
-        })
+        self.open(alloc, task, None, form, settings)
     }
 }

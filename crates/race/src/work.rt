@@ -34,17 +34,6 @@ pub(crate) fn started_all(alloc: Global, runs: Vec<AheadRun>) -> Result<Vec<Star
     Ok(started)
 }
 
-/// These runs, made.
-pub(crate) fn made_all(alloc: Global, runs: Vec<Started>) -> Result<Vec<AheadRun>, Memory>
-    ensures { IfOk result (λ out. out.items ≡ runs.items) }
-{
-    let mut made = Vec::new(alloc);
-    for run in runs {
-        made.push(run.made()?)?;
-    }
-    Ok(made)
-}
-
 /// A job for each run, up to what it was granted before and now.
 fn list_jobs(
     alloc: Global,
@@ -66,25 +55,12 @@ fn list_jobs(
     Ok(jobs)
 }
 
-/// These jobs, of runs that are made.
-fn made_jobs(alloc: Global, jobs: Vec<Job<Started>>) -> Result<Vec<Job<AheadRun>>, Memory>
-    ensures { IfOk result (λ out. out.items ≡ jobs.items) }
-{
-    let mut made = Vec::new(alloc);
-    for job in jobs {
-        let Job { run, target } = job;
-        let run = run.made()?;
-        made.push(Job { run, target })?;
-    }
-    Ok(made)
-}
-
 /// A job for each run of a round, up to what it was granted before and now.
 pub fn jobs_of(
     alloc: Global,
-    runs: Vec<AheadRun>,
+    runs: Vec<Started>,
     grants: &[u32],
-) -> Result<Vec<Job<AheadRun>>, Memory>
+) -> Result<Vec<Job<Started>>, Memory>
     requires { MayAdvance runs.items grants.now }
     ensures jobs { IfOk result (λ jobs. jobs.items ≡ jobs_at runs.items grants.now) }
     ensures sound { IfOk result (λ jobs. AllByRecursion (λ job. job.run.spoilt ≡ false) jobs.items) }
@@ -92,16 +68,16 @@ pub fn jobs_of(
     // With all of their targets granted, they are the runs advanced by their grants.
     ensures moved { IfOk result (λ jobs. map run_at jobs.items ≡ moved_all runs.items grants.now) }
 {
-    let started = started_all(alloc, runs)?;
-    made_jobs(alloc, list_jobs(alloc, started, grants, 0)?)
+    list_jobs(alloc, runs, grants, 0)
 }
 
-/// The run of a job, with all of its target granted: a settled one may have been granted less.
-pub fn with_all_granted(job: Job<AheadRun>) -> Result<AheadRun, Memory>
+/// The run of a job, made, with all of its target granted: a settled one may have been granted less.
+pub fn with_all_granted(job: Job<Started>) -> Result<AheadRun, Memory>
     ensures { IfOk result (λ run. run ≡ run_at job) }
 {
     let rest = (job.target - job.run.granted()) as u32;
-    let Job { mut run, target: _ } = job;
+    let Job { run, target: _ } = job;
+    let mut run = run.made()?;
     run.go_on(rest)?;
     Ok(run)
 }
@@ -111,7 +87,7 @@ fn runs_of(alloc: Global, jobs: Vec<Job<Started>>) -> Result<Vec<AheadRun>, Memo
     ensures { IfOk result (λ runs. runs.items ≡ map run_at jobs.items) }
 {
     let mut runs = Vec::new(alloc);
-    for job in made_jobs(alloc, jobs)? {
+    for job in jobs {
         runs.push(with_all_granted(job)?)?;
     }
     Ok(runs)

@@ -9,7 +9,7 @@ use gt_core::eff::{Eff, Effs};
 use gt_core::lits::{Bits, Lits};
 use gt_core::pairs::Pairs;
 use gt_core::task::Task;
-use horizon_run::{AheadRun, HorizonRun};
+use horizon_run::{AheadRun, HorizonRun, Started};
 use std::alloc::Global;
 use std::process::Abort;
 use step_encoding::exists::ExistsForm;
@@ -59,20 +59,20 @@ pub(crate) fn form_of<'a>(rt: &impl Abort, alloc: Global, ground: &'a Ground) ->
 }
 
 /// The run of a horizon over a form of a small task.
-fn run_of<F: StepForm>(rt: &impl Abort, alloc: Global, task: &Task, form: &F, n: u8) -> AheadRun
+fn run_of<F: StepForm>(rt: &impl Abort, alloc: Global, task: &Task, form: &F, n: u8) -> HorizonRun
     requires { F.task form.now ≡ task.now }
 {
     let n = u32::from(n);
     assert!(rt; form.size(n) <= PLANNER_LITERALS);
-    let run = HorizonRun::new(alloc, task, form, n)
+    HorizonRun::new(alloc, task, form, n)
         .ok()
-        .expect(rt, "memory");
-    AheadRun::of(alloc, run)
+        .expect(rt, "memory")
 }
 
-/// The run of a horizon of the lamp that is off.
-pub(crate) fn lamp_run(rt: &impl Abort, alloc: Global, n: u8) -> AheadRun {
+/// The run of a horizon of the lamp that is off. Its solver may be so many conflicts ahead.
+pub(crate) fn lamp_run(rt: &impl Abort, alloc: Global, n: u8, most: u32) -> Started {
     let off = grounded(rt, alloc, false);
     let form = form_of(rt, alloc, &off);
-    run_of(rt, alloc, &off.task, &form, n)
+    let run = run_of(rt, alloc, &off.task, &form, n);
+    Started::of(alloc, AheadRun::of(alloc, run).allowed(most))
 }

@@ -5,7 +5,7 @@ use Rattle.poll_batch.proofs.anew.run_anew.Goals as goal
 
 pub race-requires : goal.race-requires
 race-requires g c =
-    (search rules, (search rules, (search rules, all-here (IsFormed g.F.StepForm) c.args.kept.now c.loop-one.one-index c.one-item.result c.requires c.loop-one-test.true c.one-item.is)))
+    (search rules, (search rules, all-here (IsFormed g.F.StepForm) c.args.kept.now c.loop-one.one-index c.one-item.result c.requires c.loop-one-test.true c.one-item.is))
 
 pub loop-one-preserved : goal.loop-one-preserved
 loop-one-preserved g c =

@@ -1,13 +1,16 @@
 use Rattle.std.proofs.Common.{◌≡◌, false, sym, refl, ◌∙◌}
-use Rattle.horizon_run.proofs.Grants.{stays_seen, sane_before, now-formula, now-means, now-granted, seen-formula, seen-means, seen-granted, seen-spoilt}
+use Rattle.horizon_run.specs.Seen.{seen_of}
+use Rattle.horizon_run.proofs.Grants.{same-origin, stays_seen, sane_before, now-formula, now-means, now-granted, seen-formula, seen-means, seen-granted, seen-spoilt}
 use Rattle.horizon_run.proofs.ahead.AheadRun.handle_ahead.Goals as goal
 
 pub returns-clause-formula : goal.returns-clause-formula
 returns-clause-formula c =
     seen-formula c.catch_up.new.run c.self.inside.granted ∙ c.catch_up.ensures.formula ∙ now-formula c.self.inside.run _ c.self.inside.granted c.self.view_is
 
-pub returns-clause-means : goal.returns-clause-means
-returns-clause-means c = seen-means c.catch_up.new.run c.self.inside.granted ∙ c.catch_up.ensures.means ∙ now-means c.self.inside.run _ c.self.inside.granted c.self.view_is
+pub returns-clause-origin : goal.returns-clause-origin
+returns-clause-origin c =
+    same-origin c.args.self.now (seen_of c.catch_up.new.run c.self.inside.granted) (returns-clause-formula c)
+    (seen-means c.catch_up.new.run c.self.inside.granted ∙ c.catch_up.ensures.means ∙ now-means c.self.inside.run _ c.self.inside.granted c.self.view_is)
 
 pub returns-clause-granted : goal.returns-clause-granted
 returns-clause-granted c = seen-granted c.catch_up.new.run c.self.inside.granted ∙ now-granted c.self.inside.run _ c.self.inside.granted c.self.view_is
