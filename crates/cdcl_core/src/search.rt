@@ -29,7 +29,8 @@ use std::marker::Model;
 /// At each so manyth conflict the search restarts: it backtracks to level 0, and drops learned clauses.
 const RESTART: u64 = 64;
 
-/// A search over a formula.
+/// A search over a formula: its clauses with the log, what propagates, which owns the trail, the room in which conflicts are worked
+/// out, how it stands, and whether memory was wanting once, since it then goes no further.
 pub struct Search {
     alloc: Global,
     clauses: Clauses,

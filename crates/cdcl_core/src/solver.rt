@@ -26,7 +26,8 @@ use containers::let_go;
 use std::alloc::Global;
 use std::marker::Model;
 
-/// A solver of a formula by learning from conflicts. Its chooser makes the decisions.
+/// A solver of a formula by learning from conflicts. Its chooser makes the decisions. Beside the chooser stands what that was told of
+/// the trail, and up to which length that is still so (`kept`), since a chooser that knows what changed need not look at all of it.
 pub struct Solver<C: Chooser> {
     search: Search,
     chooser: C,

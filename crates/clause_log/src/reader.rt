@@ -102,6 +102,7 @@ impl<'a> Reader<'a> {
         ensures lawful { IfOk result (λ kind. IsLawfulBy kind) }
         ensures err { OnErr result (self.new ≡ self.old) }
     {
+        // For the proof: the caller knows that an entry is left, so one can be taken off below.
         if self.left == 0 {
             unreachable!()
         }

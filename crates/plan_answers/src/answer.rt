@@ -86,6 +86,7 @@ pub fn answer<H: Threads + Wait + Sync, G: Gate>(
             let (domain, problem, proof) = three_of(request, files);
             answer_verify(rt, alloc, domain, problem, proof)
         }
+        // Of several tasks: the caller's condition leaves it out.
         Request::Batch { .. } => unreachable!(),
     }
 }

@@ -125,6 +125,7 @@ pub(crate) fn next_phase<F: StepForm>(
     match phase {
         Phase::Between(racing) => begin(alloc, task, form, settings, racing),
         Phase::Within(round) => Ok(go_on(alloc, form, settings, round, cx)?),
+        // A race whose end was given is polled no more: the caller's condition.
         Phase::Given => unreachable!(),
     }
 }

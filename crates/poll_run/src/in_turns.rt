@@ -117,6 +117,7 @@ fn take_all<A: Drop, T: Drop>(
     for slot in slots {
         match slot {
             MaybeDone::Done(end) => ends.push(end)?,
+            // All are done: the caller's condition.
             _ => unreachable!(),
         }
     }

@@ -129,6 +129,7 @@ impl<R: Resume> Future for PollRun<R> {
                     Poll::Ready(run)
                 }
             }
+            // A run that was given is polled no more: the caller's condition.
             None => unreachable!(),
         }
     }

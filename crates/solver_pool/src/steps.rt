@@ -38,6 +38,7 @@ impl<R: Resume> Ring<R> {
     {
         match self.queue.push_as::<Opening, H>(rt, &mut owner.pass, job) {
             Ok(()) => {}
+            // The ring has room for 16 jobs, and by its rule no more are in it.
             Err(_) => unreachable!(),
         }
     }
@@ -52,6 +53,7 @@ impl<R: Resume> Ring<R> {
     {
         match self.queue.push_as::<Return, H>(rt, &mut pass.pass, job) {
             Ok(()) => {}
+            // The ring has room for 16 jobs, and by its rule no more are in it.
             Err(_) => unreachable!(),
         }
     }
