@@ -1,5 +1,5 @@
 //! The bytes of entries, and the clauses that they learn.
-ghost use Rattle.std.specs.Prelude.{◌≡◌, ◌++◌, ◌∷◌, [], ◌*◌, length, map, take, OnOk, OnErr};
+ghost use Rattle.std.specs.Prelude.{◌≡◌, ◌++◌, ◌∷◌, [], ◌*◌, length, map, take, Ok, OnOk, OnErr};
 ghost use Rattle.clause_base.specs.declared.log.Entry.TheVariants.{Drop};
 ghost use Rattle.clause_log.specs.Held.{hint_bytes, log_bytes, AreFew, AreSmall};
 
@@ -32,6 +32,21 @@ fn put_drops(steps: &mut Vec<u8>, numbers: &[u32]) -> Result<(), AllocError>
     Ok(())
 }
 
+/// Hands on whether bytes were added behind the first `start`: after want of memory all behind these are dropped.
+fn or_back(steps: &mut Vec<u8>, start: usize, added: Result<(), AllocError>) -> Result<(), Memory>
+    ensures added { OnOk result (added ≡ Ok tt) }
+    ensures ok { OnOk result (steps.new.items ≡ steps.old.items) }
+    ensures err { OnErr result (steps.new.items ≡ take start steps.old.items) }
+{
+    match added {
+        Ok(()) => Ok(()),
+        Err(error) => {
+            steps.truncate(start);
+            Err(Memory::from(error))
+        }
+    }
+}
+
 /// Adds the hints of an entry that learns a clause. After want of memory the bytes are unchanged.
 fn add_hints(steps: &mut Vec<u8>, hints: &[u32]) -> Result<(), Memory>
     ensures ok { OnOk result (steps.new.items ≡ steps.old.items ++ hint_bytes hints.now) }
@@ -39,13 +54,8 @@ fn add_hints(steps: &mut Vec<u8>, hints: &[u32]) -> Result<(), Memory>
     ensures err { OnErr result (steps.new.items ≡ steps.old.items) }
 {
     let start = steps.len();
-    match put_hints(steps, hints) {
-        Ok(()) => Ok(()),
-        Err(error) => {
-            steps.truncate(start);
-            Err(Memory::from(error))
-        }
-    }
+    let added = put_hints(steps, hints);
+    or_back(steps, start, added)
 }
 
 /// Adds an entry that learns a clause, whose literals stay in the memory that they are in: the clause to those that are learned, and
@@ -76,11 +86,6 @@ pub fn add_drops(steps: &mut Vec<u8>, numbers: &[u32]) -> Result<(), Memory>
     ensures err { OnErr result (steps.new.items ≡ steps.old.items) }
 {
     let start = steps.len();
-    match put_drops(steps, numbers) {
-        Ok(()) => Ok(()),
-        Err(error) => {
-            steps.truncate(start);
-            Err(Memory::from(error))
-        }
-    }
+    let added = put_drops(steps, numbers);
+    or_back(steps, start, added)
 }

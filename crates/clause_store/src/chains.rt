@@ -11,7 +11,7 @@ ghost use Rattle.clause_store.specs.Linked.{IsLinked, IsLoose, ArePairLoose, pla
 ghost use Rattle.clause_store.specs.Walk.{IsWalk, StandsAt};
 
 use crate::refill::refill;
-use std::alloc::{AllocError, Global};
+use std::alloc::AllocError;
 
 /// Where a chain ends.
 pub const END: u32 = 4_294_967_295;
@@ -38,19 +38,6 @@ pub struct Chains {
 }
 
 impl Chains {
-    /// Chains without nodes, with room for so many.
-    pub fn new(alloc: Global, codes: u32, nodes: usize) -> Result<Chains, AllocError>
-        ensures linked { IfOk result (λ c. IsLinked c.heads.items c.nodes.items (λ k. None)) }
-        ensures codes { IfOk result (λ c. length c.heads.items ≡ codes) }
-        ensures nodes { IfOk result (λ c. c.nodes.items ≡ []) }
-    {
-        let none = Chains {
-            heads: Vec::new(alloc),
-            nodes: Vec::new(alloc),
-        };
-        none.renewed(codes, nodes)
-    }
-
     /// Chains without nodes, with room for so many, in the memory of chains that are done with.
     pub fn renewed(self, codes: u32, nodes: usize) -> Result<Chains, AllocError>
         ensures linked { IfOk result (λ c. IsLinked c.heads.items c.nodes.items (λ k. None)) }

@@ -1,8 +1,8 @@
 //! Where a solver finds its clauses: by number, and by the literals that become false.
 //!
-//! `store` has the clauses by number: those of the formula are read where they stand in it, the others are its own. `index` has the
-//! clauses of two literals of a formula by literal: those of one step and of one time stand in tables once. `chains` has for each
-//! literal the clauses that watch it, as chains of nodes that are moved from one to another without memory.
+//! `store` has the clauses by number: those of the formula are read where they stand in it, the others stand in blocks that it shares
+//! with the log. `index` has the clauses of two literals of a formula by literal: those of one step and of one time stand in tables
+//! once. `chains` has for each literal the clauses that watch it, as chains of nodes that are moved from one to another without memory.
 #![tactic(auto)]
 
 pub mod chains;

@@ -2,19 +2,17 @@ use Rattle.std.proofs.Common.{arith, ◌≡◌, ◌==◌, ℕ, ◌+◌, ◌*◌,
 use Rattle.std.specs.List.{cons_option, AllByRecursion}
 use Rattle.std.proofs.lemmas.Nat.{row_fits}
 use Rattle.std.proofs.lemmas.List.Elements.{All-nil, All-cons}
-use Rattle.gt_core.specs.Literal.{range}
-use Rattle.gt_core.specs.Task.{Task, effects, initial_state}
+use Rattle.gt_core.specs.Task.{Task, effects}
 use Rattle.horizon_formula.specs.Layout.{Layout, width, variables, action_at, conditional_at, chain_at, fact_at}
 use Rattle.gt_core.proofs.Basics.{Among}
-use Rattle.gt_core.proofs.Literals.{below_range}
 use Rattle.clause_base.specs.Clause.{HasVariablesBelow, has_opposite_pair, put}
 use Rattle.horizon_formula.specs.Clause.{Literal, Is, Not, code}
 use Rattle.horizon_formula.specs.Variables.{Row, rows, has_condition, layout_of, variable_at}
-use Rattle.horizon_formula.specs.Formula.{step_clauses, pair_clauses, initial_clauses, goal_clauses}
+use Rattle.horizon_formula.specs.Formula.{step_clauses, pair_clauses}
 use Rattle.horizon_formula.specs.Coded.{coded}
 use Rattle.horizon_formula.proofs.Counts.{conditional_count}
 use Rattle.horizon_formula.proofs.InRange.{IsInRange}
-use Rattle.horizon_formula.proofs.Alike.{Alike, ClauseAlike, NamesAlike, over_alike, effect_of_row, step_alike, known_alike, zipped_map, zipped_parts}
+use Rattle.horizon_formula.proofs.Alike.{Alike, ClauseAlike, NamesAlike, effect_of_row, step_alike, known_alike}
 use Rattle.horizon_formula.proofs.ShiftLaw.{number_below}
 
 -- Every variable of a formula is one of its layout.
@@ -106,24 +104,3 @@ module _ (task : Task) (pairs : List (ℕ × ℕ)) (places : List (List ℕ × �
   known_within t le =
       coded_below top (pair_clauses z pairs t) (pair_clauses z pairs t)
       (known_alike (Below top) task pairs places is (fact_at z t) (fact_at z t) (λ f lf. fact_below t f le lf))
-
-  -- the initial clauses
-  pub initial_within : AllByRecursion (HasVariablesBelow (variables z)) (coded (initial_clauses z task))
-  initial_within =
-      coded_below top (initial_clauses z task) (initial_clauses z task)
-      (zipped_map (ClauseAlike (Below top)) _ _ (range task.facts) (λ f i. by f (below_range task.facts f i) (initial_state task f)))
-    where
-      by : (f : ℕ) → f < task.facts → (b : Bool) → ClauseAlike (Below top) ((if b then Is (fact_at z 0 f) else Not (fact_at z 0 f)) ∷ []) ((if b then Is (fact_at z 0 f) else Not (fact_at z 0 f)) ∷ [])
-      by f lf true = (fact_below 0 f (omega arith) lf, tt)
-      by f lf false = (fact_below 0 f (omega arith) lf, tt)
-
-  -- the goal's clauses
-  pub goal_within : AllByRecursion (HasVariablesBelow (variables z)) (coded (goal_clauses z task))
-  goal_within =
-      coded_below top (goal_clauses z task) (goal_clauses z task)
-      (zipped_parts (ClauseAlike (Below top)) (if task.hopeless then [] ∷ [] else []) _ (if task.hopeless then [] ∷ [] else []) _ (by task.hopeless)
-      (zipped_map (ClauseAlike (Below top)) _ _ task.goal (λ l i. (over_alike (Below top) (fact_at z n) (fact_at z n) l (fact_below n (l / 2) (omega arith) (is.goals l i)), tt))))
-    where
-      by : (b : Bool) → Alike (Below top) (if b then [] ∷ [] else []) (if b then [] ∷ [] else [])
-      by true = (tt, tt)
-      by false = tt

@@ -205,12 +205,6 @@ one_open on xs l e =
 pub clash : {X : Type 0} → true ≡ false → X
 clash e = absurd (let w : ⊥ = cc in w)
 
-pub other_insert : (set set' : ℕ → Bool) (n k : ℕ) → ((j : ℕ) → set' j ≡ (j == n || set j)) → (k ≡ n → ⊥) → set' k ≡ set k
-other_insert set set' n k h ne = h k ∙ ap (λ (b : Bool). b || set k) (off k n ne)
-  where
-    off : (a b : ℕ) → (a ≡ b → ⊥) → (a == b) ≡ false
-    off a b f = let n : a ≢ b = f in grind (arith, nat_tests)
-
 -- a clause that is kept and pending is pending
 pub pending_kept : (cl : List (List ℕ)) (kept : List Bool) (trail : List ℕ) (k : ℕ) → is_pending_on cl kept trail k ≡ true
     → is_pending (has_literal trail) (clause_at cl k) ≡ true

@@ -42,10 +42,6 @@ pending_off on xs t = ap (λ (b : Bool). not (list_any on xs) && b) (tests_past_
 pub clause_is : (cl : List (List ℕ)) (k : ℕ) → clause_at cl k ≡ get_or cl k []
 clause_is cl k = unwrap_or-slice_get cl k []
 
--- a clause has as many literals as the one that was read
-pub clause_long : (cl : List (List ℕ)) (k : ℕ) (clause : List ℕ) (n : ℕ) → clause ≡ get_or cl k [] → n ≡ length clause → length (clause_at cl k) ≡ n
-clause_long cl k clause n e f = ap (λ (xs : List ℕ). length xs) (clause_is cl k ∙ sym e) ∙ sym f
-
 -- past the last clause there is the empty one
 pub clause_past : (cl : List (List ℕ)) (k : ℕ) → length cl ≤ k → clause_at cl k ≡ []
 clause_past cl k h = clause_is cl k ∙ get_or_past cl k [] h

@@ -1,16 +1,14 @@
 //! The least clause that is kept and pending. Each clause that is so is in the set; a member that is not is taken out where it is the
 //! least: one that is not kept, or whose asked literal is true.
-ghost use Rattle.std.specs.Prelude.{◌≡◌, ◌*◌, ◌<◌, ◌≤◌, length, true};
+ghost use Rattle.std.specs.Prelude.{◌≡◌, ◌*◌, ◌<◌, length, true};
 ghost use Rattle.clause_base.specs.Clause.{has_literal};
 ghost use Rattle.bit_sets.specs.Layered.{words_have};
 ghost use Rattle.propagation.specs.Asks.{HasAsks, IsAsk, IsConsistent};
 ghost use Rattle.propagation.specs.Front.{AreRead, asked_at, first_asked, IsAnswer, IsComplete, StayWhere};
-ghost use Rattle.propagation.specs.Known.{AreListed};
 ghost use Rattle.propagation.specs.Tables.{AreTables, pending_in};
 ghost use Rattle.propagation.specs.Visit.{Grows};
 ghost use Rattle.cdcl_rules.specs.State.{clause_at};
 
-use crate::known::scan_listed;
 use crate::pending::{NO_LITERAL, Pending};
 use crate::scan::ask_of;
 use crate::tables::Tables;
@@ -88,28 +86,5 @@ pub fn scan_one(tables: &Tables, assignment: &Assignment, pending: &mut Pending,
     let clause = tables.store.clause(number);
     if let Some(ask) = ask_of(assignment, &clause) {
         pending.put(number, ask);
-    }
-}
-
-/// Puts the clauses that are kept and pending into a set, and takes all others out. Of the clauses whose numbers are below `from`
-/// only the listed ones are looked at: no others are so.
-pub fn rescan(
-    tables: &Tables,
-    assignment: &Assignment,
-    pending: &mut Pending,
-    listed: &[u32],
-    from: u32,
-)
-    requires tables { AreTables tables.now (2 * assignment.now.variables) }
-    requires room { length tables.now.store ≤ 64 * length pending.old.numbers }
-    requires long { length tables.now.store ≤ length pending.old.asks.items }
-    requires listed { AreListed (pending_in tables.now assignment.now.trail) listed.now from }
-    ensures asks { HasAsks tables.now.store assignment.now.trail pending.new }
-    ensures complete { IsComplete (pending_in tables.now assignment.now.trail) pending.new }
-{
-    pending.clear();
-    scan_listed(tables, assignment, pending, listed);
-    for number in from..tables.kept.len() as u32 {
-        scan_one(tables, assignment, pending, number);
     }
 }

@@ -6,7 +6,8 @@ ghost use Rattle.propagation.specs.Front.{IsComplete};
 ghost use Rattle.propagation.specs.Known.{AreListed};
 ghost use Rattle.propagation.specs.Tables.{AreTables, pending_in};
 
-use crate::front::rescan;
+use crate::front::scan_one;
+use crate::known::scan_listed;
 use crate::pending::Pending;
 use crate::tables::Tables;
 use cdcl_trail::assignment::Assignment;
@@ -32,8 +33,9 @@ pub fn take_back(trail: &mut Trail, to: Back)
     }
 }
 
-/// Finds which clauses are pending on a trail that was taken back. Where nothing is pending at its length, as the flags tell, no
-/// clause is looked at; else of the clauses whose numbers are below `from` only the listed ones are, for no others are pending.
+/// Puts the clauses into a set that are kept and pending on a trail that was taken back, and takes all others out. Where nothing is
+/// pending at its length, as the flags tell, no clause is looked at; else of the clauses whose numbers are below `from` only the
+/// listed ones are, for no others are pending.
 pub fn refresh(
     tables: &Tables,
     quiet: &Vec<bool>,
@@ -52,9 +54,12 @@ pub fn refresh(
     ensures complete { IsComplete (pending_in tables.now assignment.now.trail) pending.new }
 {
     let is_quiet = quiet[assignment.length() as usize];
+    pending.clear();
     if is_quiet {
-        pending.clear();
-    } else {
-        rescan(tables, assignment, pending, listed, from);
+        return;
+    }
+    scan_listed(tables, assignment, pending, listed);
+    for number in from..tables.kept.len() as u32 {
+        scan_one(tables, assignment, pending, number);
     }
 }

@@ -1,13 +1,12 @@
 -- What the checker knows after some entries, and what it decides by that.
-use Rattle.std.proofs.Common.{arith, ◌≡◌, ◌==◌, ℕ, zero, suc, ◌+◌, ◌-◌, ◌<◌, ◌≤◌, nat_lt, List, [], ◌∷◌, ◌++◌, length, set, get_or, slice_index_or, Bool, true, false, ◌||◌, ◌&&◌, not, Option, Some, None, refl, sym, ap, ◌∙◌, subst, All, replicate, IfSome, if◌then◌else◌, length-append, take, add-one}
+use Rattle.std.proofs.Common.{arith, ◌≡◌, ◌==◌, ℕ, zero, suc, ◌+◌, ◌-◌, ◌<◌, ◌≤◌, nat_lt, List, [], ◌∷◌, ◌++◌, length, get_or, slice_index_or, Bool, true, false, ◌||◌, ◌&&◌, not, Option, Some, None, refl, sym, ap, ◌∙◌, subst, All, replicate, IfSome, if◌then◌else◌, length-append, take, add-one}
 use Rattle.std.specs.List.{list_any, slice_get}
 use Rattle.std.specs.Option.{is_some}
 use Rattle.std.proofs.Math.Bool.{or-false}
 use Rattle.std.proofs.Math.Seq.{take-suc}
 use Rattle.std.proofs.lemmas.List.Folds.{list_any-append}
 use Rattle.std.proofs.lemmas.Bool.Decides.{nat_tests}
-use Rattle.std.proofs.lemmas.List.{get_or_past, get_or_append_left, get_or-set_other, length-set}
-use Rattle.std.proofs.lemmas.Grind.{get_or-set_at}
+use Rattle.std.proofs.lemmas.List.{get_or_past, get_or_append_left}
 use Rattle.std.proofs.lemmas.Option.{slice_get_past}
 use Rattle.std.proofs.Math.Seq.{get_or-append_seam}
 use Rattle.clause_base.specs.Literal.{opposite}
@@ -242,56 +241,3 @@ learn_named clauses dropped now learned more clause d m n =
             let above : length clauses ≤ n = grind (arith, nat_tests) in
             let past : length learned ≤ n - length clauses = grind (arith, nat_tests) in
             get_or_past (learned ++ Some clause ∷ []) (n - length clauses) None (omega (arith, long, apart, above, past)) ∙ sym (get_or_past learned (n - length clauses) None past)
-
-dropped_set : (dropped : List Bool) (number other : ℕ) → number < length dropped → is_dropped (set dropped number true) other ≡ (if number == other then true else is_dropped dropped other)
-dropped_set dropped number other h = by (number == other) refl
-  where
-    by : (b : Bool) → (number == other) ≡ b → is_dropped (set dropped number true) other ≡ (if b then true else is_dropped dropped other)
-    by true e = let same : other ≡ number = grind (arith, nat_tests) in get_or-set_at dropped number other true false same h
-    by false e = let other_one : (other ≡ number) → ⊥ = grind (arith, nat_tests) in get_or-set_other dropped number other true false other_one
-
-learned_set : (learned : List (Option (List ℕ))) (number other : ℕ) → slice_index_or (set learned number None) other None ≡ (if number == other then None else slice_index_or learned other None)
-learned_set learned number other = by (number == other) refl
-  where
-    here : other ≡ number → (b : Bool) → nat_lt number (length learned) ≡ b → slice_index_or (set learned number None) other None ≡ None
-    here same true e = get_or-set_at learned number other None None same (grind (arith, nat_tests))
-    here same false e =
-        let long : length (set learned number None) ≡ length learned = length-set learned number None in
-        let past : length learned ≤ number = grind (arith, nat_tests) in
-        get_or_past (set learned number None) other None (omega (arith, long, past, same))
-
-    by : (b : Bool) → (number == other) ≡ b → slice_index_or (set learned number None) other None ≡ (if b then None else slice_index_or learned other None)
-    by true e = here (grind (arith, nat_tests)) (nat_lt number (length learned)) refl
-    by false e = let other_one : (other ≡ number) → ⊥ = grind (arith, nat_tests) in get_or-set_other learned number other None None other_one
-
--- what numbers name where a clause of the formula was dropped
-pub drop_named : (clauses : List (List ℕ)) (dropped now : List Bool) (learned : List (Option (List ℕ))) (number : ℕ) → number < length clauses → length dropped ≡ length clauses → now ≡ set dropped number true
-    → (other : ℕ) → kept_named clauses now learned other ≡ (if number == other then None else kept_named clauses dropped learned other)
-drop_named clauses dropped now learned number within long d other =
-    ap (λ (bs : List Bool). kept_named clauses bs learned other) d
-    ∙ ap (λ (b : Bool). if nat_lt other (length clauses) then (if b then None else slice_get clauses other) else slice_index_or learned (other - length clauses) None) (dropped_set dropped number other (omega (arith, long, within)))
-    ∙ by (nat_lt other (length clauses)) refl (number == other) refl (is_dropped dropped other)
-  where
-    by : (low : Bool) → nat_lt other (length clauses) ≡ low → (same : Bool) → (number == other) ≡ same → (gone : Bool)
-        → (if low then (if (if same then true else gone) then None else slice_get clauses other) else slice_index_or learned (other - length clauses) None) ≡ (if same then None else (if low then (if gone then None else slice_get clauses other) else slice_index_or learned (other - length clauses) None))
-    by true e true f gone = refl
-    by true e false f gone = refl
-    by false e true f gone = let none : ⊥ = grind (arith, nat_tests) in absurd none
-    by false e false f gone = refl
-
--- what numbers name where a learned clause was taken out
-pub removed_named : (clauses : List (List ℕ)) (dropped : List Bool) (learned now : List (Option (List ℕ))) (number : ℕ) → length clauses ≤ number → now ≡ set learned (number - length clauses) None
-    → (other : ℕ) → kept_named clauses dropped now other ≡ (if number == other then None else kept_named clauses dropped learned other)
-removed_named clauses dropped learned now number past d other =
-    ap (λ (os : List (Option (List ℕ))). kept_named clauses dropped os other) d
-    ∙ ap (λ (o : Option (List ℕ)). if nat_lt other (length clauses) then (if is_dropped dropped other then None else slice_get clauses other) else o) (learned_set learned (number - length clauses) (other - length clauses))
-    ∙ by (nat_lt other (length clauses)) refl (number == other) refl (number - length clauses == other - length clauses) refl
-  where
-    by : (low : Bool) → nat_lt other (length clauses) ≡ low → (same : Bool) → (number == other) ≡ same → (beside : Bool) → (number - length clauses == other - length clauses) ≡ beside
-        → (if low then (if is_dropped dropped other then None else slice_get clauses other) else (if beside then None else slice_index_or learned (other - length clauses) None)) ≡ (if same then None else (if low then (if is_dropped dropped other then None else slice_get clauses other) else slice_index_or learned (other - length clauses) None))
-    by true e true f beside g = let none : ⊥ = grind (arith, nat_tests) in absurd none
-    by true e false f beside g = refl
-    by false e true f true g = refl
-    by false e true f false g = let none : ⊥ = grind (arith, nat_tests) in absurd none
-    by false e false f true g = let none : ⊥ = grind (arith, nat_tests) in absurd none
-    by false e false f false g = refl

@@ -7,10 +7,12 @@ use Rattle.std.proofs.lemmas.List.Elements.{filter-append}
 use Rattle.containers.specs.declared.memory.Memory.{Memory}
 use Rattle.sat_text.specs.declared.words.Signed.{Signed}
 use Rattle.sat_text.specs.declared.lrat_line.Line.{Line}
+use Rattle.sat_text.specs.declared.lrat_line.Part.{Part}
+use Rattle.sat_text.specs.declared.lrat_line.Part.TheVariants.{Literals, Ids}
 use Rattle.sat_text.specs.Words.{first_number, words_of, begins_with}
 use Rattle.sat_text.proofs.WordsLaws.{not_zero}
-use Rattle.sat_text.specs.LratLine.{line_of, up_to_zero, all_to_zero, addition, deletion, codes_of, code_of, has_code, plain_ids, IsHeld}
-use Rattle.sat_text.specs.Reading.{SameHead, ReadsLiterals, ReadsIds}
+use Rattle.sat_text.specs.LratLine.{line_of, up_to_zero, all_to_zero, addition, deletion, rest_of, codes_of, code_of, has_code, plain_ids, IsHeld}
+use Rattle.sat_text.specs.Reading.{Reads, ReadsLiterals, ReadsIds}
 
 -- numbers that were read, and the words that are left, with these before them
 abbrev Read : Type 0
@@ -62,51 +64,39 @@ passes_end all left passed p none = p ∙ ap (option_map (ahead passed)) (up_non
 
 -- ---- what is held
 
-codes_more : (literals : List Signed) (told : Signed) → codes_of (literals ++ told ∷ []) ≡ codes_of literals ++ codes_of (told ∷ [])
-codes_more literals told = ap (map code_of) (filter-append has_code literals (told ∷ [])) ∙ map-append code_of (filter has_code literals) (filter has_code (told ∷ []))
+codes_then : (literals others : List Signed) → codes_of (literals ++ others) ≡ codes_of literals ++ codes_of others
+codes_then literals others = ap (map code_of) (filter-append has_code literals others) ∙ map-append code_of (filter has_code literals) (filter has_code others)
 
-ids_more : (ids : List Signed) (told : Signed) → plain_ids (ids ++ told ∷ []) ≡ plain_ids ids ++ plain_ids (told ∷ [])
-ids_more ids told = ap (map (λ told. told.number)) (filter-append (λ told. not told.minus) ids (told ∷ [])) ∙ map-append (λ told. told.number) (filter (λ told. not told.minus) ids) (filter (λ told. not told.minus) (told ∷ []))
+ids_then : (ids others : List Signed) → plain_ids (ids ++ others) ≡ plain_ids ids ++ plain_ids others
+ids_then ids others = ap (map (λ told. told.number)) (filter-append (λ told. not told.minus) ids others) ∙ map-append (λ told. told.number) (filter (λ told. not told.minus) ids) (filter (λ told. not told.minus) others)
 
-any_more : (p : Signed → Bool) (a : Bool) (ids : List Signed) (told : Signed) → ((a || list_any p ids) || p told) ≡ (a || list_any p (ids ++ told ∷ []))
-any_more p true ids told = refl
-any_more p false [] told = or_same (p told)
-  where
-    or_same : (b : Bool) → b ≡ (b || false)
-    or_same true = refl
-    or_same false = refl
-any_more p false (id ∷ ids) told = by (any_more p false ids told) (p id) refl
-  where
-    by : (list_any p ids || p told) ≡ list_any p (ids ++ told ∷ []) → (b : Bool) → p id ≡ b → (list_any p (id ∷ ids) || p told) ≡ list_any p (id ∷ (ids ++ told ∷ []))
-    by more true e = rw e refl
-    by more false e = rw e more
+any_then : (p : Signed → Bool) (a : Bool) (xs ys : List Signed) → ((a || list_any p xs) || list_any p ys) ≡ (a || list_any p (xs ++ ys))
+any_then p true xs ys = refl
+any_then p false [] ys = refl
+any_then p false (x ∷ xs) ys = any_then p (p x) xs ys
 
 or_none : (a : Bool) → a ≡ (a || false)
 or_none true = refl
 or_none false = refl
 
-pub reads_none : (line : Line) → ReadsLiterals line line []
-reads_none line = record { head = record { id = refl; deletes = refl }; lits = sym (append-nil line.lits.items); hints = refl; foreign = or_none line.foreign }
+-- of no numbers nothing is read
+pub reads_nothing : (part : Part) (line : Line) → Reads part line line []
+reads_nothing Literals line = record { head = record { id = refl; deletes = refl }; lits = sym (append-nil line.lits.items); hints = refl; foreign = or_none line.foreign }
+reads_nothing Ids line = record { head = record { id = refl; deletes = refl }; lits = refl; hints = sym (append-nil line.ids.items); foreign = or_none line.foreign }
 
-pub reads_no_ids : (line : Line) → ReadsIds line line []
-reads_no_ids line = record { head = record { id = refl; deletes = refl }; lits = refl; hints = sym (append-nil line.ids.items); foreign = or_none line.foreign }
-
-pub reads_more : (old middle new : Line) (literals : List Signed) (told : Signed) → ReadsLiterals old middle literals → SameHead middle new
-    → new.lits.items ≡ middle.lits.items ++ codes_of (told ∷ []) → new.ids.items ≡ middle.ids.items → new.foreign ≡ (middle.foreign || not (has_code told)) → ReadsLiterals old new (literals ++ told ∷ [])
-reads_more old middle new literals told r head lits ids foreign = record {
-  head = record { id = head.id ∙ r.head.id; deletes = head.deletes ∙ r.head.deletes };
-  lits = lits ∙ ap (λ (xs : List ℕ). xs ++ codes_of (told ∷ [])) r.lits ∙ append_assoc old.lits.items (codes_of literals) (codes_of (told ∷ [])) ∙ ap (λ (xs : List ℕ). old.lits.items ++ xs) (sym (codes_more literals told));
-  hints = ids ∙ r.hints;
-  foreign = foreign ∙ ap (λ (b : Bool). b || not (has_code told)) r.foreign ∙ any_more (λ told. not (has_code told)) old.foreign literals told;
+-- numbers are read, and then others
+pub reads_then : (part : Part) (old middle new : Line) (numbers others : List Signed) → Reads part old middle numbers → Reads part middle new others → Reads part old new (numbers ++ others)
+reads_then Literals old middle new numbers others r s = record {
+  head = record { id = s.head.id ∙ r.head.id; deletes = s.head.deletes ∙ r.head.deletes };
+  lits = s.lits ∙ ap (λ (xs : List ℕ). xs ++ codes_of others) r.lits ∙ append_assoc old.lits.items (codes_of numbers) (codes_of others) ∙ ap (λ (xs : List ℕ). old.lits.items ++ xs) (sym (codes_then numbers others));
+  hints = s.hints ∙ r.hints;
+  foreign = s.foreign ∙ ap (λ (b : Bool). b || list_any (λ told. not (has_code told)) others) r.foreign ∙ any_then (λ told. not (has_code told)) old.foreign numbers others;
 }
-
-pub reads_more_ids : (old middle new : Line) (hints : List Signed) (told : Signed) → ReadsIds old middle hints → SameHead middle new
-    → new.lits.items ≡ middle.lits.items → new.ids.items ≡ middle.ids.items ++ plain_ids (told ∷ []) → new.foreign ≡ (middle.foreign || told.minus) → ReadsIds old new (hints ++ told ∷ [])
-reads_more_ids old middle new hints told r head lits ids foreign = record {
-  head = record { id = head.id ∙ r.head.id; deletes = head.deletes ∙ r.head.deletes };
-  lits = lits ∙ r.lits;
-  hints = ids ∙ ap (λ (xs : List ℕ). xs ++ plain_ids (told ∷ [])) r.hints ∙ append_assoc old.ids.items (plain_ids hints) (plain_ids (told ∷ [])) ∙ ap (λ (xs : List ℕ). old.ids.items ++ xs) (sym (ids_more hints told));
-  foreign = foreign ∙ ap (λ (b : Bool). b || told.minus) r.foreign ∙ any_more (λ told. told.minus) old.foreign hints told;
+reads_then Ids old middle new numbers others r s = record {
+  head = record { id = s.head.id ∙ r.head.id; deletes = s.head.deletes ∙ r.head.deletes };
+  lits = s.lits ∙ r.lits;
+  hints = s.hints ∙ ap (λ (xs : List ℕ). xs ++ plain_ids others) r.hints ∙ append_assoc old.ids.items (plain_ids numbers) (plain_ids others) ∙ ap (λ (xs : List ℕ). old.ids.items ++ xs) (sym (ids_then numbers others));
+  foreign = s.foreign ∙ ap (λ (b : Bool). b || list_any (λ told. told.minus) others) r.foreign ∙ any_then (λ told. told.minus) old.foreign numbers others;
 }
 
 -- ---- whole lines
@@ -171,31 +161,17 @@ pub line_minus : (bytes : List ℕ) (id : Signed) → first_number (words_of byt
 unfolding line_of
 line_minus bytes id is minus = rw (is, minus) refl
 
-pub line_deletes : (bytes : List ℕ) (id : Signed) → first_number (words_of bytes) ≡ Some id → id.minus ≡ false → begins_with (codes "d") (drop 1 (words_of bytes)) ≡ true → line_of bytes ≡ deletion id.number (drop 1 (drop 1 (words_of bytes)))
+pub line_rest : (bytes : List ℕ) (id : Signed) (deletes : Bool) → first_number (words_of bytes) ≡ Some id → id.minus ≡ false → deletes ≡ begins_with (codes "d") (drop 1 (words_of bytes))
+    → line_of bytes ≡ rest_of deletes id.number (if deletes then drop 1 (drop 1 (words_of bytes)) else drop 1 (words_of bytes))
 unfolding line_of
-line_deletes bytes id is plain deletes = rw (is, plain, deletes) refl
-
-pub line_adds : (bytes : List ℕ) (id : Signed) → first_number (words_of bytes) ≡ Some id → id.minus ≡ false → begins_with (codes "d") (drop 1 (words_of bytes)) ≡ false → line_of bytes ≡ addition id.number (drop 1 (words_of bytes))
-unfolding line_of
-line_adds bytes id is plain adds = rw (is, plain, adds) refl
+line_rest bytes id true is plain begins = rw (is, plain, sym begins) refl
+line_rest bytes id false is plain begins = rw (is, plain, sym begins) refl
 
 -- where so much of them was read: the words, the id, and whether they delete clauses
-module _ (bytes : List ℕ) (all after rest : List (List ℕ)) (told : Option Signed) (id : Signed) (is : all ≡ words_of bytes) (read : told ≡ first_number all) (some : told ≡ Some id) (passed : after ≡ drop 1 all) where
-  spelled : first_number (words_of bytes) ≡ Some id
-  spelled = ap first_number (sym is) ∙ (sym read ∙ some)
-
-  left : after ≡ drop 1 (words_of bytes)
-  left = passed ∙ ap (drop 1) is
-
-  pub read_deletes : (deletes : Bool) (held : ℕ) → id.minus ≡ false → deletes ≡ begins_with (codes "d") after → rest ≡ (if deletes then drop 1 after else after) → deletes ≡ true → held ≡ id.number → line_of bytes ≡ deletion held rest
-  read_deletes deletes held plain begins goes_on on same =
-      line_deletes bytes id spelled plain (ap (begins_with (codes "d")) (sym left) ∙ (sym begins ∙ on))
-      ∙ (ap (deletion id.number) (sym (goes_on ∙ (ap (λ (b : Bool). if b then drop 1 after else after) on ∙ ap (drop 1) left))) ∙ ap (λ (n : ℕ). deletion n rest) (sym same))
-
-  pub read_adds : (deletes : Bool) (held : ℕ) → id.minus ≡ false → deletes ≡ begins_with (codes "d") after → rest ≡ (if deletes then drop 1 after else after) → deletes ≡ false → held ≡ id.number → line_of bytes ≡ addition held rest
-  read_adds deletes held plain begins goes_on off same =
-      line_adds bytes id spelled plain (ap (begins_with (codes "d")) (sym left) ∙ (sym begins ∙ off))
-      ∙ (ap (addition id.number) (sym (goes_on ∙ (ap (λ (b : Bool). if b then drop 1 after else after) off ∙ left))) ∙ ap (λ (n : ℕ). addition n rest) (sym same))
+pub read_so : (bytes : List ℕ) (all after rest : List (List ℕ)) (told : Option Signed) (id : Signed) (deletes held_deletes : Bool) (held : ℕ) → all ≡ words_of bytes → told ≡ first_number all → told ≡ Some id → after ≡ drop 1 all
+    → id.minus ≡ false → deletes ≡ begins_with (codes "d") after → rest ≡ (if deletes then drop 1 after else after) → held_deletes ≡ deletes → held ≡ id.number → line_of bytes ≡ rest_of held_deletes held rest
+read_so bytes all after rest told id deletes held_deletes held is read some passed plain begins goes_on same same_id =
+    rw (same, same_id, goes_on, passed, is) (line_rest bytes id deletes (ap first_number (sym is) ∙ (sym read ∙ some)) plain (begins ∙ ap (λ (words : List (List ℕ)). begins_with (codes "d") words) (passed ∙ ap (drop 1) is)))
 
 -- where none is held to have a minus, none has
 pub plain_ids_of : (old new : Line) (ids : List Signed) → IsHeld (record { id = old.id; deletes = true; literals = []; hints = [] }) old → ReadsIds old new ids

@@ -33,6 +33,10 @@ abbrev pub deletion : ℕ → List (List ℕ) → Option LineView
 deletion id words =
     option_and_then (λ ids. if list_any (λ told. told.minus) ids then None else Some (record { id = id; deletes = true; literals = []; hints = ids })) (all_to_zero words)
 
+-- the line of an id and these words, which deletes clauses or adds one
+abbrev pub rest_of : Bool → ℕ → List (List ℕ) → Option LineView
+rest_of deletes id words = if deletes then deletion id words else addition id words
+
 -- the line of an id, which has no minus, and the words after it
 abbrev pub line_with : Signed → List (List ℕ) → Option LineView
 line_with id words = if id.minus then None else if begins_with (codes "d") words then deletion id.number (drop 1 words) else addition id.number words

@@ -3,6 +3,8 @@ use Rattle.std.specs.Prelude.{◌≡◌, ◌++◌, ◌||◌, not, List}
 use Rattle.std.specs.List.{list_any}
 use Rattle.sat_text.specs.declared.words.Signed.{Signed}
 use Rattle.sat_text.specs.declared.lrat_line.Line.{Line}
+use Rattle.sat_text.specs.declared.lrat_line.Part.{Part}
+use Rattle.sat_text.specs.declared.lrat_line.Part.TheVariants.{Literals, Ids}
 use Rattle.sat_text.specs.LratLine.{codes_of, has_code, plain_ids}
 
 -- the id and the kind stay as they are
@@ -23,3 +25,8 @@ pub record ReadsIds (old new : Line) (ids : List Signed) : Type 0 where
   pub lits : new.lits.items ≡ old.lits.items
   pub hints : new.ids.items ≡ old.ids.items ++ plain_ids ids
   pub foreign : new.foreign ≡ (old.foreign || list_any (λ told. told.minus) ids)
+
+-- these numbers of one of the two lists were read
+abbrev pub Reads : Part → Line → Line → List Signed → Type 0
+Reads Literals = ReadsLiterals
+Reads Ids = ReadsIds

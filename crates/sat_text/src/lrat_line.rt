@@ -2,8 +2,8 @@
 ghost use Rattle.std.specs.Prelude.{◌≡◌, ◌<◌, ◌++◌, ◌∷◌, ◌||◌, [], true, false, not, List, Some, None, Ok, map, OnOk};
 ghost use Rattle.std.specs.List.{list_any};
 ghost use Rattle.sat_text.specs.declared.words.Signed.{Signed};
-ghost use Rattle.sat_text.specs.LratLine.{LineView, IsHeld, line_of, up_to_zero, all_to_zero, addition, deletion, codes_of, has_code, plain_ids};
-ghost use Rattle.sat_text.specs.Reading.{ReadsLiterals, ReadsIds, SameHead};
+ghost use Rattle.sat_text.specs.LratLine.{LineView, IsHeld, line_of, up_to_zero, all_to_zero, addition, deletion, rest_of};
+ghost use Rattle.sat_text.specs.Reading.{Reads, ReadsLiterals, ReadsIds};
 
 use crate::words::{Signed, Words};
 use clause_base::literal::Lit;
@@ -27,6 +27,14 @@ pub struct Line {
     /// Whether the clause has a literal without a code, or there is a hint with a minus, which asks for more than reverse unit
     /// propagation. Neither is among the lists.
     pub foreign: bool,
+}
+
+// The lists of a line, each of which ends with a 0.
+#[derive(Clone, Copy)]
+enum Part {
+    Literals,
+    // Hints, or ids.
+    Ids,
 }
 
 impl Line {
@@ -55,10 +63,7 @@ impl Line {
     // Adds a literal, of a number that is not 0.
     fn add_literal(&mut self, told: Signed) -> Result<(), Memory>
         requires { 0 < told.number }
-        ensures literals { OnOk result (self.new.lits.items ≡ self.old.lits.items ++ codes_of (told ∷ [])) }
-        ensures foreign { OnOk result (self.new.foreign ≡ (self.old.foreign || not (has_code told))) }
-        ensures head { SameHead self.old self.new }
-        ensures ids { self.new.ids.items ≡ self.old.ids.items }
+        ensures { OnOk result (ReadsLiterals self.old self.new (told ∷ [])) }
     {
         if MOST_VARIABLES < told.number {
             self.foreign = true;
@@ -71,10 +76,7 @@ impl Line {
 
     // Adds a hint, or an id.
     fn add_id(&mut self, told: Signed) -> Result<(), Memory>
-        ensures ids { OnOk result (self.new.ids.items ≡ self.old.ids.items ++ plain_ids (told ∷ [])) }
-        ensures foreign { OnOk result (self.new.foreign ≡ (self.old.foreign || told.minus)) }
-        ensures head { SameHead self.old self.new }
-        ensures literals { self.new.lits.items ≡ self.old.lits.items }
+        ensures { OnOk result (ReadsIds self.old self.new (told ∷ [])) }
     {
         if told.minus {
             self.foreign = true;
@@ -84,16 +86,29 @@ impl Line {
         Ok(())
     }
 
-    // Reads literals up to 0.
-    fn read_literals(&mut self, words: &mut Words<'_>) -> Result<bool, Memory>
-        ensures read { result ≡ Ok true → (literals : List Signed) × (up_to_zero words.old ≡ Some (literals, words.new)) × ReadsLiterals self.old self.new literals }
+    // Adds a number that is not 0 of one of the two lists.
+    #[inline(always)]
+    fn add(&mut self, part: Part, told: Signed) -> Result<(), Memory>
+        requires { 0 < told.number }
+        ensures { OnOk result (Reads part self.old self.new (told ∷ [])) }
+    {
+        match part {
+            Part::Literals => self.add_literal(told),
+            Part::Ids => self.add_id(told),
+        }
+    }
+
+    // Reads one of the two lists up to its 0.
+    #[inline(always)]
+    fn read_part(&mut self, part: Part, words: &mut Words<'_>) -> Result<bool, Memory>
+        ensures read { result ≡ Ok true → (numbers : List Signed) × (up_to_zero words.old ≡ Some (numbers, words.new)) × Reads part self.old self.new numbers }
         ensures none { result ≡ Ok false → up_to_zero words.old ≡ None }
     {
         while let Some(told) = words.number() {
             if told.number == 0 {
                 return Ok(true);
             }
-            self.add_literal(told)?;
+            self.add(part, told)?;
         }
         Ok(false)
     }
@@ -103,13 +118,10 @@ impl Line {
         ensures read { result ≡ Ok true → (ids : List Signed) × (all_to_zero words.old ≡ Some ids) × ReadsIds self.old self.new ids }
         ensures none { result ≡ Ok false → all_to_zero words.old ≡ None }
     {
-        while let Some(told) = words.number() {
-            if told.number == 0 {
-                return Ok(words.is_over());
-            }
-            self.add_id(told)?;
+        if !self.read_part(Part::Ids, words)? {
+            return Ok(false);
         }
-        Ok(false)
+        Ok(words.is_over())
     }
 
     // Reads what follows the id of a line that adds a clause.
@@ -118,7 +130,7 @@ impl Line {
         ensures line { result ≡ Ok true → (line : LineView) × (addition self.old.id words.old ≡ Some line) × IsHeld line self.new }
         ensures none { result ≡ Ok false → addition self.old.id words.old ≡ None }
     {
-        if !self.read_literals(words)? {
+        if !self.read_part(Part::Literals, words)? {
             return Ok(false);
         }
         self.read_ids(words)
@@ -136,6 +148,19 @@ impl Line {
         Ok(!self.foreign)
     }
 
+    // Reads what follows the id, and the `d` where there is one.
+    fn read_rest(&mut self, words: &mut Words<'_>) -> Result<bool, Memory>
+        requires { IsHeld (record { id = self.old.id; deletes = self.old.deletes; literals = []; hints = [] }) self.old }
+        ensures line { result ≡ Ok true → (line : LineView) × (rest_of self.old.deletes self.old.id words.old ≡ Some line) × IsHeld line self.new }
+        ensures none { result ≡ Ok false → rest_of self.old.deletes self.old.id words.old ≡ None }
+    {
+        if self.deletes {
+            self.read_deletion(words)
+        } else {
+            self.read_addition(words)
+        }
+    }
+
     /// Reads the bytes of a line, without its LF, and says whether they are one. Where they are not, what is held is not told.
     pub fn read(&mut self, bytes: &[u8]) -> Result<bool, Memory>
         ensures line { result ≡ Ok true → (line : LineView) × (line_of bytes.now ≡ Some line) × IsHeld line self.new }
@@ -149,10 +174,6 @@ impl Line {
             return Ok(false);
         }
         self.begin(id.number, words.is_deletion());
-        if self.deletes {
-            self.read_deletion(&mut words)
-        } else {
-            self.read_addition(&mut words)
-        }
+        self.read_rest(&mut words)
     }
 }

@@ -2,7 +2,7 @@ use Rattle.std.proofs.Common.{arith, ◌≡◌, ◌+◌, ◌-◌, ◌*◌, ◌�
 use Rattle.std.specs.List.{AllByRecursion, filter, flat_map}
 use Rattle.std.proofs.lemmas.List.{append-nil, append_assoc, map-append}
 use Rattle.action_order.proofs.Lists.{range_more}
-use Rattle.std.proofs.lemmas.List.{drop_more, drop_all, length-reverse}
+use Rattle.std.proofs.lemmas.List.{drop_more, length-reverse}
 use Rattle.std.proofs.lemmas.Grind.{flat_map-append, reverse_onto}
 use Rattle.std.proofs.lemmas.List.Elements.{filter-append}
 use Rattle.std.proofs.lemmas.List.Sums.{sum_by-cons, sum_by-append}
@@ -23,7 +23,7 @@ use Rattle.horizon_formula.specs.Variables.{chains_from, chain_places, chain_var
 use Rattle.step_chains.specs.declared.link.Link.{Link}
 use Rattle.step_chains.specs.Touching.{link_of, links_of, touches}
 use Rattle.step_chains.specs.Links.{link_count, pass_links}
-use Rattle.step_chains.specs.Chains.{LinkedChain, LinkedChains, linked_clauses, all_clauses, Extends, AreWithin, IsChainWithin, HasRoom, links_in, members_in, no_chains}
+use Rattle.step_chains.specs.Chains.{LinkedChain, LinkedChains, linked_clauses, all_clauses, Extends, AreWithin, IsChainWithin, HasRoom, links_in, members_in}
 use Rattle.step_chains.specs.Index.{IsIndexOf}
 use Rattle.step_chains.specs.BothWays.{ways, ways_in}
 use Rattle.step_chains.proofs.LinkLaw.{count_is, enter_is, pass_is, enter_none, pass_none}
@@ -114,11 +114,6 @@ put_last : {A : Type 0} (P : A → Type 0) (xs : List A) (x : A) → AllByRecurs
 put_last P [] x all px = (px, tt)
 put_last P (y ∷ xs) x all px = (all.0, put_last P xs x all.1 px)
 
--- what holds of each element holds in reverse
-pub each_back : {A : Type 0} (P : A → Type 0) (xs : List A) → AllByRecursion P xs → AllByRecursion P (reverse xs)
-each_back P [] all = tt
-each_back P (x ∷ xs) all = subst (λ (ys : List _). AllByRecursion P ys) (sym (reverse_onto xs x [])) (put_last P (reverse xs) x (each_back P xs all.1) all.0)
-
 -- a chain comes after those that were found
 pub one_found :
     (task : Task) (members : List ℕ) (m : ℕ) (old new : LinkedChains) (links : List Link)
@@ -198,10 +193,6 @@ within_more old new links w all e n a some room = record {
     both = put_last (IsChainWithin old.actions new.variables) old.chains (linked old.variables links)
         (chains_within_more old.actions old.variables new.variables old.chains grows w.chains)
         (record { variables_few = omega (arith, n); actions_few = all })
-
--- the room that is left
-pub room_left : (task : Task) (places : List (List ℕ × ℕ)) (old new : LinkedChains) (n : ℕ) → Extends task places old new → HasRoom old (members_in places + n) → HasRoom new n
-room_left task places old new n e room = let f = e.few in omega (arith, f, room)
 
 -- a component of fewer than two members has no chain with a variable
 short_count : (t r : ℕ → Bool) (members : List ℕ) → length members < 2 → chain_length t r false members ≡ 0
@@ -339,9 +330,6 @@ group_more task order items i d group members a b e lt is m one new rest =
     let at : get_or order i d ≡ members = ap (λ (x : List (List ℕ)). get_or x i d) (sym e) ∙ sym is ∙ sym m in
     component_more task order i members a b new (drop_more order i d lt2 ∙ ap (λ (ks : List ℕ). ks ∷ drop (i + 1) order) at) one rest
 
-pub all_groups : (task : Task) (order : List (List ℕ)) (i : ℕ) (f : LinkedChains) → length order ≤ i → Extends task (chain_places task (drop i order)) f f
-all_groups task order i f le = subst (λ (ks : List (List ℕ)). Extends task (chain_places task ks) f f) (sym (drop_all i order le)) (nothing_found task f)
-
 pub group_at : (order items : List (List ℕ)) (i : ℕ) (d group members : List ℕ) → items ≡ order → i < length items → group ≡ get_or items i d → members ≡ group → drop i order ≡ members ∷ drop (i + 1) order
 group_at order items i d group members e lt is m =
     let lt2 : i < length order = rw e at lt in
@@ -357,9 +345,6 @@ room_of_order order i members f at room =
 -- what holds of the members of each component holds of all actions
 pub each_of_order : (P : ℕ → Type 0) (order : List (List ℕ)) → AllByRecursion (λ ks. AllByRecursion P ks) order → AllByRecursion P (order_of order)
 each_of_order P order all = each_from P (order_of order) (λ a i. let r = flat_among (λ ks. ks) order a i in each_at P r.0 a (each_at (λ ks. AllByRecursion P ks) order r.0 all r.1) r.2)
-
-pub first_room : (actions n : ℕ) → n ≤ 16384 → HasRoom (no_chains actions) (4096 * n)
-first_room actions n le = omega (arith, le)
 
 pub variables_few : (f : LinkedChains) (n : ℕ) → n ≡ f.variables → AreWithin f → n ≤ 1073741824
 variables_few f n e w = let a = w.few in let b = w.variables in omega (arith, e, a, b)

@@ -40,11 +40,6 @@ nothing : (x y z : Bool) → (x || y) ≡ false → z ≡ (x || z)
 nothing true y z h = cc
 nothing false y z h = refl
 
-nothing_else : (x y z : Bool) → (x || y) ≡ false → z ≡ (y || z)
-nothing_else true y z h = cc
-nothing_else false true z h = cc
-nothing_else false false z h = refl
-
 -- a list ends in one way
 
 cons_same : {A : Type 0} (x y : A) (xs ys : List A) → x ∷ xs ≡ y ∷ ys → (x ≡ y) × (xs ≡ ys)
@@ -82,17 +77,6 @@ module _ (a : ℕ) (takes reads : Bool) (some : (takes || reads) ≡ true) (base
       by false f =
           let g : base ≡ popped ++ last ∷ [] = sym (append-nil base) ∙ ap (λ (x : List Link). base ++ x) (sym (entry_none a t r f)) ∙ sym e ∙ p in
           absurd (apart (last.action == a) (same_test last.action a s) (last_away a popped last (subst (λ (x : List Link). IsAway a x) g away)))
-
-  -- it had none
-  pub marked_first : (old new : List Link) → old ≡ base ++ entry a t r → ((popped : List Link) (last : Link) → old ≡ popped ++ last ∷ [] → last.action ≡ a → ⊥) → new ≡ old ++ link a takes reads ∷ [] → new ≡ base ++ entry a (t || takes) (r || reads)
-  marked_first old new e none n = by (t || r) refl
-    where
-      by : (b : Bool) → (t || r) ≡ b → new ≡ base ++ entry a (t || takes) (r || reads)
-      by true f = absurd (none base (link a t r) (e ∙ ap (λ (x : List Link). base ++ x) (entry_full a t r f)) refl)
-      by false f =
-          let g : old ≡ base = e ∙ ap (λ (x : List Link). base ++ x) (entry_none a t r f) ∙ append-nil base in
-          n ∙ ap (λ (x : List Link). x ++ link a takes reads ∷ []) g
-          ∙ ap (λ (x : List Link). base ++ x) (sym (entry_full a takes reads some) ∙ entry_same a takes (t || takes) reads (r || reads) (nothing t r takes f) (nothing_else t r reads f))
 
 -- Marks, one after the other.
 

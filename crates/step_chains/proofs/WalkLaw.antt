@@ -38,11 +38,6 @@ at links items i d k e lt is = record {
   here = drop_more links i d (rw e at lt) ∙ ap (λ (x : Link). x ∷ drop (i + 1) links) (ap (λ (xs : List Link). get_or xs i d) (sym e) ∙ sym is);
 }
 
-pub reader_left : (links : List Link) (i : ℕ) (k : Link) (left : ℕ) → IsAt links i k → left ≡ readers (drop i links) → k.reads ≡ true → 1 ≤ left
-reader_left links i k left is e r =
-    let n = e ∙ ap readers is.here ∙ readers-cons k (drop (i + 1) links) ∙ ap (λ (b : Bool). cond b 1 0 + readers (drop (i + 1) links)) r in
-    omega (arith, n)
-
 pub left_next : (links : List Link) (i : ℕ) (k : Link) (left after : ℕ) → IsAt links i k → left ≡ readers (drop i links) → (if k.reads then 1 else 0) + after ≡ left → after ≡ readers (drop (i + 1) links)
 left_next links i k left after is e f = by k.reads (f ∙ e ∙ ap readers is.here ∙ readers-cons k (drop (i + 1) links))
   where

@@ -19,7 +19,8 @@ returns-then-slot-len c =
     let t = c.args.tables.now in
     let inside : c.args.slot < length t.steps.of_slots.items = omega (arith, c.if-slot-len.true, c.len.ensures) in
     let step = get_or_read t.steps.of_slots.items c.args.slot c.index-step.result.now inside c.index-step.ensures 0 in
-    clause_of_step t.store t.slots.items t.steps c.args.slot c.index-step.result.now c.number_at-number.result c.step_clause.result c.requires.steps inside step c.number_at-number.ensures c.step_clause.ensures
+    clause_of_step t.store t.slots.items t.steps c.args.slot c.index-step.result.now c.number_at-number.result c.step_clause.result
+    c.requires.steps inside step c.number_at-number.ensures c.step_clause.ensures
     ∙ own (goal.at.returns-then-slot-len c).After-number_at-number
 
 pub clause-requires : goal.clause-requires

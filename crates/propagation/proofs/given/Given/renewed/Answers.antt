@@ -160,77 +160,20 @@ returns c =
     ) in
     subst (λ (n : ℕ). AreGiven c.args.codes c.args.store.now n e) end c.in_ok-enter_part.ensures.given
 
-pub enter_part-requires-clause-fit : goal.enter_part-requires-clause-fit
-enter_part-requires-clause-fit c = c.requires.fit
-
 pub enter_part-requires-clause-few : goal.enter_part-requires-clause-few
 enter_part-requires-clause-few c = few_clauses c.count.ensures.few c.requires.same
-
-pub enter_part-requires-clause-below : goal.enter_part-requires-clause-below
-enter_part-requires-clause-below c = c.in_ok-told_others.ensures.below
-
-pub enter_part-requires-clause-rising : goal.enter_part-requires-clause-rising
-enter_part-requires-clause-rising c = c.in_ok-told_others.ensures.rising
-
-pub enter_parts-requires-clause-fit : goal.enter_parts-requires-clause-fit
-enter_parts-requires-clause-fit c = c.requires.fit
 
 pub enter_parts-requires-clause-few : goal.enter_parts-requires-clause-few
 enter_parts-requires-clause-few c = few_clauses c.count.ensures.few c.requires.same
 
-pub enter_parts-requires-clause-below : goal.enter_parts-requires-clause-below
-enter_parts-requires-clause-below c = c.in_ok-step_others.ensures.below
-
-pub enter_parts-requires-clause-rising : goal.enter_parts-requires-clause-rising
-enter_parts-requires-clause-rising c = c.in_ok-step_others.ensures.rising
-
-pub enter_parts-requires-clause-given : goal.enter_parts-requires-clause-given
-enter_parts-requires-clause-given c = c.in_ok-told.ensures.given
-
-pub enter_parts-requires-2-clause-fit : goal.enter_parts-requires-2-clause-fit
-enter_parts-requires-2-clause-fit c = c.requires.fit
-
 pub enter_parts-requires-2-clause-few : goal.enter_parts-requires-2-clause-few
 enter_parts-requires-2-clause-few c = few_clauses c.count.ensures.few c.requires.same
-
-pub enter_parts-requires-2-clause-below : goal.enter_parts-requires-2-clause-below
-enter_parts-requires-2-clause-below c = c.in_ok-time_others.ensures.below
-
-pub enter_parts-requires-2-clause-rising : goal.enter_parts-requires-2-clause-rising
-enter_parts-requires-2-clause-rising c = c.in_ok-time_others.ensures.rising
-
-pub enter_parts-requires-2-clause-given : goal.enter_parts-requires-2-clause-given
-enter_parts-requires-2-clause-given c = c.in_ok-stepped.ensures.given
-
-pub enter_part-requires-2-clause-fit : goal.enter_part-requires-2-clause-fit
-enter_part-requires-2-clause-fit c = c.requires.fit
 
 pub enter_part-requires-2-clause-few : goal.enter_part-requires-2-clause-few
 enter_part-requires-2-clause-few c = few_clauses c.count.ensures.few c.requires.same
 
-pub enter_part-requires-2-clause-below : goal.enter_part-requires-2-clause-below
-enter_part-requires-2-clause-below c = c.in_ok-time_others.ensures.below
-
-pub enter_part-requires-2-clause-rising : goal.enter_part-requires-2-clause-rising
-enter_part-requires-2-clause-rising c = c.in_ok-time_others.ensures.rising
-
-pub enter_part-requires-2-clause-given : goal.enter_part-requires-2-clause-given
-enter_part-requires-2-clause-given c = c.in_ok-timed.ensures.given
-
-pub enter_part-requires-3-clause-fit : goal.enter_part-requires-3-clause-fit
-enter_part-requires-3-clause-fit c = c.requires.fit
-
 pub enter_part-requires-3-clause-few : goal.enter_part-requires-3-clause-few
 enter_part-requires-3-clause-few c = few_clauses c.count.ensures.few c.requires.same
-
-pub enter_part-requires-3-clause-below : goal.enter_part-requires-3-clause-below
-enter_part-requires-3-clause-below c = c.in_ok-after_others.ensures.below
-
-pub enter_part-requires-3-clause-rising : goal.enter_part-requires-3-clause-rising
-enter_part-requires-3-clause-rising c = c.in_ok-after_others.ensures.rising
-
-pub enter_part-requires-3-clause-given : goal.enter_part-requires-3-clause-given
-enter_part-requires-3-clause-given c = c.in_ok-last.ensures.given
 
 pub enter_part-requires-clause-inside : goal.enter_part-requires-clause-inside
 enter_part-requires-clause-inside c =
