@@ -113,7 +113,7 @@ pub fn judge<H: Threads + Sync, S: Shelf, T: Tape, K: Sink>(
     ensures tape_faults { T.faults tape.old ≤ T.faults tape.new }
     ensures faults { K.faults sink.old ≤ K.faults sink.new }
 {
-    plan_tasks::told_plans::laws();
+    plan_tasks::laws::laws();
     finish(alloc, decide(rt, alloc, words, shelf, tape), sink)
 }
 

@@ -8,11 +8,8 @@ pub fn laws()
     requests::laws::laws();
     report_lines::laws();
     gt_core::laws::laws();
-    two_invariants::laws::laws();
     grounding_laws::laws::laws();
-    step_plans::laws::laws();
     plan_report::laws::laws();
     proof_text::laws::laws();
     plan_tasks::laws::laws();
-    plan_tasks::told_plans::laws();
 }

@@ -6,11 +6,11 @@
 //! let ready = read_ready(alloc, domain, problem)?;    // a task and what it is grounded to; or the run ends with a refusal
 //! ```
 //!
-//! `plan_tasks` is about plans that a text tells; `specs/ToldPlans.antt` says what is claimed of one.
+//! `specs/ToldPlans.antt` says what is claimed of a plan that a text tells: the text is a plan file, its calls lead to the goal, and its
+//! steps are a step plan. `proofs/TellingPlans.antt` has the law that the text of what a model of a horizon's formula stands for is such.
 #![tactic(auto)]
 
 pub mod ground;
 pub mod laws;
 pub mod ready;
 pub mod task;
-pub mod told_plans;
