@@ -160,7 +160,7 @@ impl ToldWalk {
     }
 
     /// The choice of the walk over the values of the literals that were told, where there is one; the walk goes on from what is
-    /// kept. In the program this is a function of its own too, so that `bench/choose` can tell its time.
+    /// kept. In the program this is a function of its own too, so that `bench/time/choose` can tell its time.
     #[inline(never)]
     pub(crate) fn choice(&mut self, values: &Values) -> Option<Lit>
         requires values { values.now ≡ told_values (variables self.old.means.layout) self.old.told }
