@@ -1,7 +1,6 @@
 -- Supporters by their variables: the least that is found.
 use Rattle.std.proofs.Common.{arith, ◌≡◌, ℕ, zero, suc, ◌+◌, ◌≤◌, ◌<◌, List, [], ◌∷◌, ◌++◌, map, length, length-append, get_or, Bool, true, false, Option, Some, None, refl, sym, ap, ◌∙◌, subst, if◌then◌else◌}
 use Rattle.std.proofs.lemmas.Bool.Decides.{nat_tests}
-use Rattle.std.proofs.lemmas.List.{get_or_past}
 use Rattle.std.proofs.Math.ListN.{get_or-map}
 use Rattle.std.specs.Prelude.{nat_le}
 use Rattle.std.specs.Ordering.{is_le, is_some_and, nat_cmp}
@@ -104,13 +103,6 @@ marked_more marks lists b ls a h = record {
   long = let e = a.long in let m = length-append marks (b ∷ []) in let n = length-append lists (ls ∷ []) in omega (arith, e, m, n);
   each = each_more marks lists b ls a.long a.each h;
 }
-
--- no lists are marked
-pub marked_none : (marks : List Bool) (lists : List (List ℕ)) → marks ≡ [] → lists ≡ [] → AreMarked marks lists
-marked_none marks lists m l = subst (λ (bs : List Bool). AreMarked bs lists) (sym m) (subst (λ (ls : List (List ℕ)). AreMarked [] ls) (sym l) (record { long = refl; each = none }))
-  where
-    none : (k : ℕ) → get_or [] k false ≡ true → IsNonDecreasing (get_or [] k [])
-    none k t = let z : false ≡ true = sym (get_or_past [] k false (omega arith)) ∙ t in absurd (let w : ⊥ = cc in w)
 
 -- what a test of the order of a list says
 pub rising_if : (ls : List ℕ) (b : Bool) → IsAllAdjacentAnswer (λ x y t. is_some_and is_le (Some (nat_cmp x y)) ≡ t) ls b → b ≡ true → IsNonDecreasing ls

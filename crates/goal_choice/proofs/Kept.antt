@@ -1,13 +1,13 @@
 -- What is kept of a walk stands where a value changes, and a step goes on from it.
 use Rattle.std.proofs.Common.{arith, ◌≡◌, ℕ, zero, suc, ◌==◌, ◌+◌, ◌-◌, ◌*◌, ◌/◌, ◌%◌, ◌<◌, ◌≤◌, List, [], ◌∷◌, length, set, get_or, replicate, fold, Bool, true, false, Option, Some, None, refl, sym, ap, ◌∙◌, subst, if◌then◌else◌, ◌⊎◌, inl, inr}
 use Rattle.std.proofs.lemmas.List.{length-set, length-replicate, get_or-set_same, get_or-set_other, get_or-replicate, get_or_default}
-use Rattle.std.proofs.Math.Nat.{mul_comm, div-add-mod, mod-lt, div-lt_iff_lt-mul}
+use Rattle.std.proofs.Math.Nat.{mul_comm, div-add-mod, mod-lt}
 use Rattle.std.proofs.lemmas.Bool.{cases_eq, cases_lt}
 use Rattle.std.specs.Prelude.{not}
 use Rattle.std.specs.List.{slice_get, AllByRecursion}
 use Rattle.clause_base.specs.Clause.{put}
 use Rattle.clause_base.specs.Choice.{Known, same_value}
-use Rattle.horizon_formula.specs.Layout.{Layout, width, variables, fact_at}
+use Rattle.horizon_formula.specs.Layout.{width, variables, fact_at}
 use Rattle.horizon_formula.proofs.LayoutLaw.{product_le}
 use Rattle.goal_choice.specs.Means.{Means, start_of}
 use Rattle.goal_choice.specs.Walk.{support_of, supports, walk}
@@ -224,10 +224,6 @@ pub has_width : (v h w : ℕ) → v < h * w → 0 < w
 has_width v h zero l = absurd (omega (arith, l))
 has_width v h (suc w) l = omega arith
 
-pub small_width : (v h w most : ℕ) → v < h * w → h * w ≤ most → w ≤ most
-small_width v zero w most l k = absurd (omega (arith, l))
-small_width v (suc h) w most l k = let m = product_le 1 (suc h) w (omega arith) in omega (arith, m, k)
-
 pub step_chain : (w : WalkView) (v n steps : ℕ) (value : Option Bool) → IsWalk w → steps ≡ start_of w.means.layout w.means.layout.horizon → v < steps → n ≡ width w.means.layout → w.means.layout.actions + w.means.layout.conditional ≤ v % n → IsSameFrom w v value 0
 step_chain w v n steps value i s h e k =
     let less : v < start_of w.means.layout w.means.layout.horizon = omega (arith, s, h) in
@@ -268,16 +264,3 @@ begun m seen items h facts place goal ls a e f n k p g l =
     empty : place ≡ no_literals facts
     empty =
         p ∙ ap (λ (x : List Literals). get_or x h place) k ∙ get_or-replicate (h + 1) h (no_literals facts) place (omega arith)
-
--- where a number is below a product, the second factor is not 0, and it goes into the number fewer times than the first
-pub some_factor : (v h w : ℕ) → v < h * w → 0 < w
-some_factor v h zero lt = let z : h * 0 ≡ 0 = omega arith in absurd (omega (arith, lt, z))
-some_factor v h (suc w) lt = omega arith
-
-pub quotient_below : (v h w : ℕ) → v < h * w → v / w < h
-quotient_below v h w lt = (div-lt_iff_lt-mul {k = w} {x = v} {y = h} (some_factor v h w lt)).1 lt
-
--- where a variable is past those of the steps, there is a fact
-pub some_facts : (v steps : ℕ) (z y : Layout) → steps ≡ z.horizon * width z → z ≡ y → v < variables y → steps ≤ v → 0 < z.facts
-some_facts v steps z y s e below past =
-    let all = subst (λ (x : Layout). v < variables x) (sym e) below in some_factor (v - steps) (z.horizon + 1) z.facts (omega (arith, all, s, past))

@@ -1,6 +1,5 @@
 -- What wanted literals ask for, one after another, and one step of the walk.
 use Rattle.std.proofs.Common.{arith, ◌≡◌, ◌==◌, ℕ, suc, ◌+◌, ◌-◌, ◌<◌, ◌≤◌, List, [], ◌∷◌, ◌++◌, Option, Some, None, fold, refl, sym, ap, ◌∙◌, append_assoc}
-use Rattle.std.proofs.lemmas.List.{append-nil}
 use Rattle.std.proofs.lemmas.List.Sums.{fold-append}
 use Rattle.clause_base.specs.Clause.{IsRising, put}
 use Rattle.clause_base.proofs.ClauseLemmas.{rising-fold, list_any-fold}
@@ -12,10 +11,6 @@ use Rattle.goal_choice.specs.Supports.{IsStep}
 both_assoc : (ks ms : List ℕ) (w : Support) → both (Wants ks) (both (Wants ms) w) ≡ both (Wants (ks ++ ms)) w
 both_assoc ks ms (Chooses c) = refl
 both_assoc ks ms (Wants ns) = ap Wants (sym (append_assoc ks ms ns))
-
-pub one_chooses : (support : ℕ → Support) (whole : Support) (ks wanted rest : List ℕ) (l c : ℕ) → whole ≡ both (Wants ks) (supports support wanted) → wanted ≡ l ∷ rest → Chooses c ≡ support l → whole ≡ Chooses c
-one_chooses support whole ks wanted rest l c e w h =
-    e ∙ ap (λ (ls : List ℕ). both (Wants ks) (supports support ls)) w ∙ ap (λ (x : Support). both (Wants ks) (both x (supports support rest))) (sym h)
 
 pub one_wants : (support : ℕ → Support) (whole : Support) (ks ms wanted rest : List ℕ) (l : ℕ) → whole ≡ both (Wants ks) (supports support wanted) → wanted ≡ l ∷ rest → Wants ms ≡ support l → whole ≡ both (Wants (ks ++ ms)) (supports support rest)
 one_wants support whole ks ms wanted rest l e w h =
@@ -47,9 +42,6 @@ gathered_more facts support whole from l wanted rest ms before after g e small i
   one_wants support whole g.2 ms wanted rest l g.4 is w,
 )
 
-pub no_more : (support : ℕ → Support) (whole : Support) (ks wanted : List ℕ) → whole ≡ both (Wants ks) (supports support wanted) → wanted ≡ [] → whole ≡ Wants ks
-no_more support whole ks wanted e w = e ∙ ap (λ (ls : List ℕ). both (Wants ks) (supports support ls)) w ∙ ap Wants (append-nil ks)
-
 -- before the first of them nothing is wanted
 pub wants_none : (support : ℕ → Support) (wanted rest : List ℕ) → rest ≡ wanted → supports support wanted ≡ both (Wants []) (supports support rest)
 wants_none support wanted rest e = sym (nothing (supports support rest) ∙ ap (supports support) e)
@@ -71,11 +63,3 @@ step_goes_on support t wanted before s = ap (onward support t) s.1 ∙ ap (walk 
 -- a rising list is what putting its members in gives
 pub put_rising : (ls : List ℕ) → IsRising ls → fold put [] ls ≡ ls
 put_rising ls r = rising_unique (fold put [] ls) ls (rising-fold [] ls tt) r (λ l. list_any-fold (λ m. m == l) [] ls)
-
--- the walk goes on before a step
-pub step_on : (support : ℕ → ℕ → Support) (whole : Option ℕ) (n : ℕ) (wanted before : List ℕ) → whole ≡ walk support n wanted → 0 < n → IsStep (supports (support (n - 1)) wanted) None before → whole ≡ walk support (n - 1) before
-step_on support whole n wanted before h l s = let e : n ≡ suc (n - 1) = omega arith in h ∙ ap (λ (k : ℕ). walk support k wanted) e ∙ step_goes_on support (n - 1) wanted before s
-
--- or ends with a choice
-pub step_ends : (support : ℕ → ℕ → Support) (whole : Option ℕ) (n c : ℕ) (wanted before : List ℕ) → whole ≡ walk support n wanted → 0 < n → IsStep (supports (support (n - 1)) wanted) (Some c) before → whole ≡ Some c
-step_ends support whole n c wanted before h l s = let e : n ≡ suc (n - 1) = omega arith in h ∙ ap (λ (k : ℕ). walk support k wanted) e ∙ step_chooses support (n - 1) c wanted before s

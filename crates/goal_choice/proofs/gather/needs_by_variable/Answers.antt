@@ -1,10 +1,8 @@
-use Rattle.std.proofs.Common.{arith, ◌≡◌, ◌<◌, ◌++◌, ◌∙◌, ℕ, List, length, map, take, sym, ap, subst}
-use Rattle.std.specs.List.{filter, flat_map, AllByRecursion}
-use Rattle.std.proofs.lemmas.List.{take_all, length-map, get_or_read}
+use Rattle.std.proofs.Common.{◌<◌, ◌∙◌, ℕ, List, length, sym, ap, subst}
+use Rattle.std.specs.List.{filter, AllByRecursion}
+use Rattle.std.proofs.lemmas.List.{length-map, get_or_read}
 use Rattle.gt_core.specs.Task.{Action}
 use Rattle.gt_core.specs.Lawful.{is_conditional}
-use Rattle.goal_choice.specs.Needs.{needs_in}
-use Rattle.goal_choice.specs.Joined.{all_needs}
 use Rattle.goal_choice.proofs.Joined.{needs_more, long_more, all_more}
 use Rattle.goal_choice.proofs.gather.needs_by_variable.Goals as goal
 
@@ -30,11 +28,3 @@ invariant_of-result c =
     let acts = c.acts-acts.result.now in
     let long = ap (λ (ns : List (List ℕ)). length ns) c.in_ok-preconditions.ensures ∙ length-map acts (λ (a : Action). a.precondition) in
     (c.loop-number.invariant.long, subst (λ (n : ℕ). AllByRecursion (λ a. a < n) c.loop-number.actions.items) (sym long) c.loop-number.invariant.within)
-
-pub returns : goal.returns
-returns c =
-    let acts = c.acts-acts.result.now in
-    let all : take c.loop-number.number acts ≡ acts = take_all c.loop-number.number acts (omega (arith, c.loop-number-test.false)) in
-    ap (λ (pres : List (List ℕ)). all_needs pres c.loop-number.actions.items c.loop-number.conditions) c.in_ok-preconditions.ensures
-    ∙ ap (λ (ns : List (List ℕ)). map (λ (a : Action). a.precondition) acts ++ ns) (c.loop-number.invariant.needs ∙ ap (flat_map needs_in) all)
-    ∙ ap (λ (xs : List Action). map (λ (a : Action). a.precondition) xs ++ flat_map needs_in xs) c.acts-acts.ensures.acts

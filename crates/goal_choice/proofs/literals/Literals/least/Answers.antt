@@ -1,4 +1,4 @@
-use Rattle.std.proofs.Common.{arith, ◌≡◌, ◌+◌, ◌*◌, ◌∷◌, ℕ, List, [], ap, subst}
+use Rattle.std.proofs.Common.{◌≡◌, ◌+◌, ◌*◌, ◌∷◌, ℕ, List, [], ap, subst}
 use Rattle.bit_sets.specs.Rows.{row_has}
 use Rattle.goal_choice.specs.Members.{Literals, members_from}
 use Rattle.goal_choice.proofs.Sets.{next_one, no_next}
@@ -17,15 +17,3 @@ returns-in-None-clause-none c =
     let row = c.self.inside.row in
     subst (λ (ls : List ℕ). members_from c.args.from ls ≡ []) (ap (λ (s : Literals). s.members) c.self.view_is)
     (no_next (row_has row) c.args.from (2 * c.self.inside.facts) c.in-None.ensures)
-
-pub returns-in-Some-clause-within : goal.returns-in-Some-clause-within
-returns-in-Some-clause-within c =
-    let facts = ap (λ (s : Literals). s.facts) c.self.view_is in
-    let below = c.self.invariant.below c.in-Some.lit c.in-Some.ensures.1 in
-    omega (arith, facts, below)
-
-pub returns-in-Some-clause-small : goal.returns-in-Some-clause-small
-returns-in-Some-clause-small c =
-    let below = c.self.invariant.below c.in-Some.lit c.in-Some.ensures.1 in
-    let few = c.self.invariant.few in
-    omega (arith, few, below)

@@ -1,20 +1,11 @@
-use Rattle.std.proofs.Common.{arith, ◌≡◌, ◌+◌, ◌*◌, ◌∙◌, Some, sym, subst, ap}
+use Rattle.std.proofs.Common.{arith, ◌+◌, ◌*◌, ◌∙◌, Some, sym, subst, ap}
 use Rattle.clause_base.proofs.ToldLemmas.{get-told}
 use Rattle.horizon_formula.specs.Layout.{Layout, width, variables}
 use Rattle.goal_choice.specs.Means.{start_of}
 use Rattle.goal_choice.specs.Kept.{IsWalk}
 use Rattle.goal_choice.specs.Told.{ToldView, walk_of}
-use Rattle.goal_choice.proofs.Kept.{some_facts, small_width, step_chain, step_behind, step_below, step_false, some_factor, quotient_below}
+use Rattle.goal_choice.proofs.Kept.{step_chain, step_behind, step_below, step_false}
 use Rattle.goal_choice.proofs.told_walk.ToldWalk.same_from.Goals as goal
-
-pub overflow_add-looked_at : goal.overflow_add-looked_at
-overflow_add-looked_at c =
-    let z = c.layout.inside in
-    let s : c.step_start-steps.result ≡ z.horizon * (z.actions + z.conditional + z.chains) = c.step_start-steps.ensures.start ∙ ap (λ (y : Layout). z.horizon * width y) (sym c.layout.view_is) in
-    let few = c.layout.invariant in
-    let less = c.if-v-steps.false in
-    let m = small_width c.args.v z.horizon (z.actions + z.conditional + z.chains) 2147483647 (omega (arith, s, less)) (omega (arith, few)) in
-    omega (arith, m)
 
 pub returns-then-v-width-clause-same : goal.returns-then-v-width-clause-same
 returns-then-v-width-clause-same c =
@@ -48,28 +39,3 @@ returns-clause-same c =
     let e = c.layout.view_is ∙ c.layout-layout.ensures.layout ∙ ap (λ (w : ToldView). w.means.layout) c.self.view_is in
     let s = c.step_start-steps.ensures.start ∙ ap (λ (y : Layout). z.horizon * width y) (sym c.layout.view_is) ∙ ap (λ (y : Layout). start_of y y.horizon) e in
     λ _. step_behind (walk_of c.args.self.now) c.args.v (z.actions + z.conditional + z.chains) c.step_start-steps.result c.args.value (subst (λ (w : ToldView). IsWalk (walk_of w)) c.self.view_is c.self.invariant.walk) s c.if-v-steps.false (ap (λ (y : Layout). width y) e)
-
-pub nonzero_rem-v : goal.nonzero_rem-v
-nonzero_rem-v c =
-    let z = c.layout.inside in
-    let s : c.step_start-steps.result ≡ z.horizon * (z.actions + z.conditional + z.chains) = c.step_start-steps.ensures.start ∙ ap (λ (y : Layout). z.horizon * width y) (sym c.layout.view_is) in
-    omega (arith, some_factor c.args.v z.horizon (z.actions + z.conditional + z.chains) (omega (arith, s, c.if-v-steps.false)))
-
-pub returns-clause-within : goal.returns-clause-within
-returns-clause-within c =
-    let z = c.layout.inside in
-    let s : c.step_start-steps.result ≡ z.horizon * (z.actions + z.conditional + z.chains) = c.step_start-steps.ensures.start ∙ ap (λ (y : Layout). z.horizon * width y) (sym c.layout.view_is) in
-    let e = c.layout.view_is ∙ c.layout-layout.ensures.layout ∙ ap (λ (w : ToldView). w.means.layout) c.self.view_is in
-    omega (arith, quotient_below c.args.v z.horizon (z.actions + z.conditional + z.chains) (omega (arith, s, c.if-v-steps.false)), ap (λ (y : Layout). y.horizon) e)
-
-pub nonzero_div-place : goal.nonzero_div-place
-nonzero_div-place c =
-    let steps = c.step_start-steps.ensures.start ∙ ap (λ (y : Layout). c.layout.inside.horizon * width y) (sym c.layout.view_is) in
-    let same = c.layout.view_is ∙ c.layout-layout.ensures.layout ∙ ap (λ (w : ToldView). w.means.layout) c.self.view_is in
-    omega (arith, some_facts c.args.v c.step_start-steps.result _ _ steps same c.requires c.if-v-steps.true)
-
-pub nonzero_rem-place : goal.nonzero_rem-place
-nonzero_rem-place c =
-    let steps = c.step_start-steps.ensures.start ∙ ap (λ (y : Layout). c.layout.inside.horizon * width y) (sym c.layout.view_is) in
-    let same = c.layout.view_is ∙ c.layout-layout.ensures.layout ∙ ap (λ (w : ToldView). w.means.layout) c.self.view_is in
-    omega (arith, some_facts c.args.v c.step_start-steps.result _ _ steps same c.requires c.if-v-steps.true)
