@@ -1,7 +1,6 @@
 -- The promises of the top call, each from what it needs alone: mostly that its ending has a cause and that its text is written.
 use Rattle.std.proofs.Common.{◌≡◌, ◌==◌, ◌≤◌, ◌+◌, ◌-◌, ℕ, length, Bool, true, false, List, [], ◌∷◌, Option, Some, None, refl, sym, ap, subst, ◌∙◌, arith, inl, inr}
 use Rattle.std.specs.Prelude.{Contains, ◌⊎◌}
-use Rattle.std.proofs.lemmas.Bool.Decides.{eqb_tells}
 use Rattle.pl_io.specs.Outside.{Heard, Rose, appended}
 use Rattle.sat_text.specs.Dimacs.{formula_text}
 use Rattle.pd_task.specs.declared.error.PddlError.{PddlError}
@@ -31,6 +30,7 @@ use Rattle.plan_report.specs.Laws.{IsSmallPlan}
 use Rattle.plan_tasks.specs.PlanLaws.{PlanLaws}
 use Rattle.plan_tasks.proofs.TellingPlans.{model_runs}
 use Rattle.plan_tasks.proofs.Printing.{printed_is}
+use Rattle.plan_tasks.proofs.Statuses.{six_seven, six_seven_eight}
 use Rattle.judge_top.specs.Seen.{Seen, formulas, judges, models, domain_of, problem_of}
 use Rattle.judge_top.specs.Requested.{requested}
 use Rattle.judge_top.specs.Ended.{status_of, text_of}
@@ -451,23 +451,11 @@ module _ (heard hears : List Heard) (failed fails : List (List ℕ)) (tape : Tap
   not_asked none end (no_request also e) = e
   not_asked none end (asked request is h) = absurd (let never : None ≡ Some request = sym none ∙ is in cc)
 
+  seven : IsDue → requested words ≡ None → (status ≡ 6 → ⊥) → (status ≡ 8 → ⊥) → status ≡ 7
+  seven due none not_six not_eight = let d = due not_six not_eight in d.1 ∙ ap status_of (not_asked none d.0 d.2)
+
   pub not_taken : IsDue → requested words ≡ None → Contains (6 ∷ 7 ∷ 8 ∷ []) status
-  not_taken due none = elim (eqb_tells status 6) [
-    | inl (t, six) ↦ (0, omega arith, sym six)
-    | inr (f, not_six) ↦ elim (eqb_tells status 8) [
-      | inl (t, eight) ↦ (2, omega arith, sym eight)
-      | inr (g, not_eight) ↦ other (due not_six not_eight)
-    ]
-  ]
-    where
-      other : ((end : Ended) × (status ≡ status_of end) × Comes heard hears failed fails tape words end × (after ≡ appended before (text_of end))) → Contains (6 ∷ 7 ∷ 8 ∷ []) status
-      other (end, is, comes, all) = (1, omega arith, sym (is ∙ ap status_of (not_asked none end comes)))
+  not_taken due none = six_seven_eight status (seven due none)
 
   pub no_command : IsDue → requested words ≡ None → (status ≡ 8 → ⊥) → Contains (6 ∷ 7 ∷ []) status
-  no_command due none not_eight = elim (eqb_tells status 6) [
-    | inl (t, six) ↦ (0, omega arith, sym six)
-    | inr (f, not_six) ↦ other (due not_six not_eight)
-  ]
-    where
-      other : ((end : Ended) × (status ≡ status_of end) × Comes heard hears failed fails tape words end × (after ≡ appended before (text_of end))) → Contains (6 ∷ 7 ∷ []) status
-      other (end, is, comes, all) = (1, omega arith, sym (is ∙ ap status_of (not_asked none end comes)))
+  no_command due none not_eight = six_seven status (λ not_six. seven due none not_six not_eight)

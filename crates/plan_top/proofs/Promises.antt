@@ -54,6 +54,7 @@ use Rattle.plan_endings.specs.Ending.{status_of, status_of_race, text_of, greate
 use Rattle.plan_claims.specs.Headline.{Printed, OfFiles, OfThreeFiles, OfPlans, PlanRuns, EveryOrderRuns, HasAtLeast, HasPlanOf, TellsExhausted, NoStepPlan, NoPlan, LineIsSo, SpendsAll, PartIsSo, Certifies, CertifiesNothing, ProvesNone, TellsGround, TellsOrder, AreCallsOfPlan, AreCallsOfNoPlan}
 use Rattle.plan_claims.specs.Laws.{Laws}
 use Rattle.plan_claims.proofs.Claims as claims
+use Rattle.plan_tasks.proofs.Statuses.{six_seven, six_seven_eight}
 use Rattle.plan_top.proofs.Told.{asked_comes, asked_parts, not_asked_comes}
 use Rattle.plan_top.proofs.Reports.{is_stop, stop_says_nothing, printed_is, printed_front, nothing_said}
 use Rattle.plan_claims.proofs.Verdicts.{reaches_is_plan, plan_reaches}
@@ -570,26 +571,14 @@ module _ (was now took : List Heard) (handed : now ≡ was ++ took) (old new : L
   pub read_fault : IsDue → status ≡ 5 → FaultOf old new words
   read_fault due five = let d = due_at 5 due five (omega arith) in fault_of d.0 d.1 d.2
 
-  pub not_taken : IsDue → requested words ≡ None → Contains (6 ∷ 7 ∷ 8 ∷ []) status
-  not_taken due none = elim (eqb_tells status 6) [
-    | inl (t, six) ↦ (0, omega arith, sym six)
-    | inr (f, not_six) ↦ elim (eqb_tells status 8) [
-      | inl (t, eight) ↦ (2, omega arith, sym eight)
-      | inr (g, not_eight) ↦ other (due not_six not_eight)
-    ]
-  ]
-    where
-      other : ((end : Ending) × (status ≡ status_of end) × Comes took old new words end × (after ≡ appended before (text_of end))) → Contains (6 ∷ 7 ∷ 8 ∷ []) status
-      other (end, is, comes, all) = (1, omega arith, sym (is ∙ ap status_of (not_asked_comes took old new words none end comes)))
+  seven : IsDue → requested words ≡ None → (status ≡ 6 → ⊥) → (status ≡ 8 → ⊥) → status ≡ 7
+  seven due none not_six not_eight = let d = due not_six not_eight in d.1 ∙ ap status_of (not_asked_comes took old new words none d.0 d.2)
 
-  pub no_command : IsDue → (requested words ≡ None) → (status ≡ 8 → ⊥) → Contains (6 ∷ 7 ∷ []) status
-  no_command due none not_eight = elim (eqb_tells status 6) [
-    | inl (t, six) ↦ (0, omega arith, sym six)
-    | inr (f, not_six) ↦ other (due not_six not_eight)
-  ]
-    where
-      other : ((end : Ending) × (status ≡ status_of end) × Comes took old new words end × (after ≡ appended before (text_of end))) → Contains (6 ∷ 7 ∷ []) status
-      other (end, is, comes, all) = (1, omega arith, sym (is ∙ ap status_of (not_asked_comes took old new words none end comes)))
+  pub not_taken : IsDue → requested words ≡ None → Contains (6 ∷ 7 ∷ 8 ∷ []) status
+  not_taken due none = six_seven_eight status (seven due none)
+
+  pub no_command : IsDue → requested words ≡ None → (status ≡ 8 → ⊥) → Contains (6 ∷ 7 ∷ []) status
+  no_command due none not_eight = six_seven status (λ not_six. seven due none not_six not_eight)
 
   pub same_report : Laws → IsDue → (elsewhere : List Heard) (others was is : List (List ℕ)) (end : Ending) → AskForOne took elsewhere words others → Comes elsewhere was is others end
       → HasRead end → (status ≡ 5 → ⊥) → (status ≡ 6 → ⊥) → (status ≡ 8 → ⊥) → (status ≡ status_of end) × (after ≡ appended before (text_of end))
