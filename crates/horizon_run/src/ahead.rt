@@ -150,6 +150,7 @@ impl AheadRun {
         ensures settled { Stays (choice_in self.now) self.now.formula }
         ensures adds_up { AddsUp (choice_in self.now) self.now.formula }
     {
+        // For the proof: what holds of its solver's run.
         let _laws = self.run.standing();
     }
 

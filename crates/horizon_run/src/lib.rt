@@ -11,7 +11,8 @@
 //! }
 //! ```
 //!
-//! An [`AheadRun`] is such a run whose solver may be ahead of what was granted.
+//! An [`AheadRun`] is such a run whose solver may be ahead of what was granted. A run that is [`Started`] is made in the first turn that
+//! advances it.
 #![tactic(auto)]
 
 mod ahead;
