@@ -100,10 +100,11 @@ pub fn find_free(
     assignment: &Assignment,
     clause: &View,
     skipped: u32,
-    low: u32,
-    high: u32,
+    low: usize,
+    high: usize,
 ) -> Option<u32>
     requires below { (p : ℕ) → p < length clause.now → slice_index clause.now p < 2 * assignment.now.variables }
+    requires short { high ≤ 4294967295 }
     requires high { high ≤ length clause.now }
     ensures none { MatchOption result (AreFalseFrom assignment.now.trail clause.now skipped low high) (λ p. is_free (has_literal assignment.now.trail) (slice_index clause.now p) ≡ true) }
     ensures other { IfSome result (λ p. slice_index clause.now p ≡ skipped → ⊥) }
@@ -111,10 +112,10 @@ pub fn find_free(
 {
     let moving = clause.moving();
     let lits = moving.lits;
-    for place in low as usize..high as usize {
+    for place in low..high {
         let lit = lits[place];
         if lit.0 >= moving.limit {
-            return find_rest(assignment, lits, moving.high, skipped, place, high as usize);
+            return find_rest(assignment, lits, moving.high, skipped, place, high);
         }
         let code = moving.low + lit.0;
         if !assignment.is_false(code) && code != skipped {
@@ -132,8 +133,8 @@ pub fn find_other(assignment: &Assignment, clause: &View, skipped: u32, from: u3
     ensures other { IfSome result (λ p. slice_index clause.now p ≡ skipped → ⊥) }
     ensures inside { IfSome result (λ p. p < length clause.now) }
 {
-    let length = clause.len() as u32;
-    let middle = from.min(length);
+    let length = clause.len();
+    let middle = (from as usize).min(length);
     match find_free(assignment, clause, skipped, middle, length) {
         Some(place) => Some(place),
         None => find_free(assignment, clause, skipped, 0, middle),
