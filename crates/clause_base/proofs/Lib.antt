@@ -1,5 +1,6 @@
 pub mod ClauseLemmas
 pub mod Rising
+pub mod ViewLemmas
 pub mod Neighbours
 pub mod Refutation
 pub mod PieceLemmas

@@ -1,9 +1,20 @@
 ghost use Rattle.std.specs.Prelude.{◌≡◌, ◌∷◌, ◌+◌, ◌<◌, ◌≤◌, Some, map, length, drop, slice_get, slice_index_or, All, OnOk};
-ghost use Rattle.clause_base.specs.View.{shifted, StaysCode};
+ghost use Rattle.clause_base.specs.Clause.{IsRising};
+ghost use Rattle.clause_base.specs.View.{shifted, IsMoved, StaysCode};
 
 use crate::literal::Lit;
 use crate::memory::Memory;
 use std::marker::Model;
+
+/// The literals of a clause as they stand, and how each is moved as it is read.
+#[derive(Clone, Copy)]
+pub struct Moving<'a> {
+    pub lits: &'a [Lit],
+    /// Codes below this one go up by `low`, and the others by `high`.
+    pub limit: u32,
+    pub low: u32,
+    pub high: u32,
+}
 
 /// The literals of a clause, read where they stand: each is moved as it is read, so that a clause that is seen many times
 /// stands once.
@@ -17,13 +28,13 @@ pub struct View<'a> {
 
 impl<'a> Model for View<'a> {
     ghost use Rattle.std.specs.Prelude.{List, ℕ, map, All};
-    ghost use Rattle.clause_base.specs.View.{shifted, StaysCode};
+    ghost use Rattle.clause_base.specs.View.{shifted, IsMoved};
 
     ghost Value = { List ℕ };
 
     ghost view = { λ v. map (shifted v.limit v.low v.high) v.lits.now };
 
-    ghost invariant = { λ v. All (StaysCode v.limit v.low v.high) v.lits.now };
+    ghost invariant = { λ v. IsMoved v.limit v.low v.high v.lits.now };
 }
 
 /// A literal whose code goes up by `low` where it is below the limit, and else by `high`.
@@ -56,7 +67,8 @@ impl<'a> View<'a> {
     /// These literals, of which the codes below the limit go up by `low`, and the others by `high`.
     #[inline(always)]
     pub(crate) fn moved(lits: &'a [Lit], limit: u32, low: u32, high: u32) -> View<'a>
-        requires { All (StaysCode limit low high) lits.now }
+        requires codes { All (StaysCode limit low high) lits.now }
+        requires rising { IsRising lits.now }
         ensures { result ≡ map (shifted limit low high) lits.now }
     {
         View {
@@ -85,6 +97,21 @@ impl<'a> View<'a> {
     {
         let lits = self.lits;
         shifted(lits[place], self.limit, self.low, self.high)
+    }
+
+    /// The literals as they stand, and how each is moved. Who reads many of them goes along those below the limit first and then along
+    /// the others, and does not choose for each.
+    #[inline(always)]
+    pub fn moving(&self) -> Moving<'a>
+        ensures value { self.now ≡ map (shifted result.limit result.low result.high) result.lits.now }
+        ensures moved { IsMoved result.limit result.low result.high result.lits.now }
+    {
+        Moving {
+            lits: self.lits,
+            limit: self.limit,
+            low: self.low,
+            high: self.high,
+        }
     }
 
     /// Makes a vector hold these literals.

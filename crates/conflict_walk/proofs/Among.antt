@@ -9,16 +9,8 @@ use Rattle.std.proofs.lemmas.Bool.Decides.{nat_tests}
 use Rattle.std.proofs.lemmas.List.Folds.{list_any_at}
 use Rattle.std.proofs.lemmas.List.Sorted.{searched}
 use Rattle.clause_base.specs.Clause.{IsRising}
+use Rattle.clause_base.proofs.ClauseLemmas.{not_falling}
 use Rattle.cdcl_rules.proofs.Tests.{same_test}
-
--- those that rise do not fall
-not_falling : (xs : List ℕ) → IsRising xs → (i j : ℕ) → i ≤ j → j < length xs → get_or xs i 0 ≤ get_or xs j 0
-not_falling [] r i j l h = absurd (omega arith)
-not_falling (x ∷ xs) r zero zero l h = omega arith
-not_falling (x ∷ []) r i (suc j) l h = absurd (omega arith)
-not_falling (x ∷ xs) r (suc i) zero l h = absurd (omega arith)
-not_falling (x ∷ y ∷ xs) r zero (suc j) l h = let t = not_falling (y ∷ xs) r.1 zero j (omega arith) (omega arith) in omega (arith, r.0, t)
-not_falling (x ∷ y ∷ xs) r (suc i) (suc j) l h = not_falling (y ∷ xs) r.1 i j (omega arith) (omega arith)
 
 -- a number that is nowhere
 nowhere : (xs : List ℕ) (x : ℕ) → ((k : ℕ) → k < length xs → (get_or xs k 0 == x) ≡ false) → list_any (λ y. y == x) xs ≡ false

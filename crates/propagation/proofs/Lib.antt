@@ -8,6 +8,7 @@ pub mod Adds
 pub mod Wider
 pub mod Enters
 pub mod Paired
+pub mod Runs
 pub mod Slotted
 pub mod Templates
 pub mod Stepped

@@ -1,5 +1,5 @@
 -- What a clause is that has literals which are not false, and a propagator as its clients see it.
-use Rattle.std.specs.Prelude.{◌≡◌, ℕ, ◌<◌, ◌≤◌, List, Bool, false, not, length, nat_le, slice_index}
+use Rattle.std.specs.Prelude.{◌≡◌, ℕ, ◌+◌, ◌<◌, ◌≤◌, List, Bool, true, false, not, Option, MatchOption, length, nat_le, slice_index}
 use Rattle.clause_base.specs.Literal.{opposite}
 use Rattle.clause_base.specs.Clause.{has_literal}
 use Rattle.cdcl_rules.specs.declared.trail.Assigned.{Assigned}
@@ -17,6 +17,13 @@ AreFalseFrom trail clause skipped low high =
 abbrev pub AreFalseBut : List ℕ → List ℕ → ℕ → Type 0
 AreFalseBut trail clause skipped =
     (p : ℕ) → p < length clause → (slice_index clause p ≡ skipped → ⊥) → is_free (has_literal trail) (slice_index clause p) ≡ false
+
+-- among literals that go up by a number, one at a place from `low` up to `high` is not false and not the skipped one, or there is none
+abbrev pub IsSought : List ℕ → List ℕ → ℕ → ℕ → ℕ → ℕ → Option ℕ → Type 0
+IsSought trail lits up skipped low high result =
+    MatchOption result
+    ((p : ℕ) → low ≤ p → p < high → (up + slice_index lits p ≡ skipped → ⊥) → is_free (has_literal trail) (up + slice_index lits p) ≡ false)
+    (λ p. (low ≤ p) × (p < high) × (up + slice_index lits p ≡ skipped → ⊥) × (is_free (has_literal trail) (up + slice_index lits p) ≡ true))
 
 -- a clause has two literals at least that are not false
 abbrev pub has_two_free : (ℕ → Bool) → List ℕ → Bool

@@ -1,8 +1,8 @@
 //! What is found by reading the literals of a clause: how it stands, what it asks for, and another one to watch.
-ghost use Rattle.std.specs.Prelude.{◌≡◌, ℕ, ◌*◌, ◌<◌, ◌≤◌, Bool, length, true, false, slice_index, MatchOption, IfSome};
+ghost use Rattle.std.specs.Prelude.{◌≡◌, ℕ, ◌+◌, ◌*◌, ◌<◌, ◌≤◌, Bool, length, true, false, slice_index, MatchOption, IfSome};
 ghost use Rattle.clause_base.specs.Clause.{has_literal};
 ghost use Rattle.propagation.specs.Asks.{IsAsk};
-ghost use Rattle.propagation.specs.Pending.{AreFalseBut, AreFalseFrom, is_free};
+ghost use Rattle.propagation.specs.Pending.{AreFalseBut, AreFalseFrom, IsSought, is_free};
 ghost use Rattle.propagation.specs.Status.{IsStatus};
 ghost use Rattle.cdcl_rules.specs.Pending.{is_pending, open_ones};
 
@@ -67,24 +67,59 @@ pub fn ask_of(assignment: &Assignment, clause: &View) -> Option<u32>
     }
 }
 
-/// A place from `low` up to `high` whose literal is not false and not the skipped one.
+/// A place from `low` up to `high` whose literal, which goes up by a number, is not false and not the skipped one.
+#[inline(always)]
+fn find_rest(
+    assignment: &Assignment,
+    lits: &[Lit],
+    up: u32,
+    skipped: u32,
+    low: usize,
+    high: usize,
+) -> Option<u32>
+    requires short { high ≤ 4294967295 }
+    requires inside { high ≤ length lits.now }
+    requires fits { (p : ℕ) → low ≤ p → p < length lits.now → slice_index lits.now p ≤ 4294967295 → up + slice_index lits.now p ≤ 4294967295 }
+    requires below { (p : ℕ) → low ≤ p → p < length lits.now → up + slice_index lits.now p < 2 * assignment.now.variables }
+    ensures { IsSought assignment.now.trail lits.now up skipped low high result }
+{
+    for place in low..high {
+        let lit = lits[place];
+        let code = up + lit.0;
+        if !assignment.is_false(code) && code != skipped {
+            return Some(place as u32);
+        }
+    }
+    None
+}
+
+/// A place from `low` up to `high` whose literal is not false and not the skipped one. The literals below the limit of the view are
+/// searched in one run and the others in a second one, so that neither chooses in each turn how a literal is moved.
+#[inline(always)]
 pub fn find_free(
     assignment: &Assignment,
     clause: &View,
     skipped: u32,
-    low: u32,
-    high: u32,
+    low: usize,
+    high: usize,
 ) -> Option<u32>
     requires below { (p : ℕ) → p < length clause.now → slice_index clause.now p < 2 * assignment.now.variables }
+    requires short { high ≤ 4294967295 }
     requires high { high ≤ length clause.now }
     ensures none { MatchOption result (AreFalseFrom assignment.now.trail clause.now skipped low high) (λ p. is_free (has_literal assignment.now.trail) (slice_index clause.now p) ≡ true) }
     ensures other { IfSome result (λ p. slice_index clause.now p ≡ skipped → ⊥) }
     ensures inside { IfSome result (λ p. p < length clause.now) }
 {
+    let moving = clause.moving();
+    let lits = moving.lits;
     for place in low..high {
-        let lit = clause.get(place as usize);
-        if !assignment.is_false(lit.0) && lit.0 != skipped {
-            return Some(place);
+        let lit = lits[place];
+        if lit.0 >= moving.limit {
+            return find_rest(assignment, lits, moving.high, skipped, place, high);
+        }
+        let code = moving.low + lit.0;
+        if !assignment.is_false(code) && code != skipped {
+            return Some(place as u32);
         }
     }
     None
@@ -98,8 +133,8 @@ pub fn find_other(assignment: &Assignment, clause: &View, skipped: u32, from: u3
     ensures other { IfSome result (λ p. slice_index clause.now p ≡ skipped → ⊥) }
     ensures inside { IfSome result (λ p. p < length clause.now) }
 {
-    let length = clause.len() as u32;
-    let middle = from.min(length);
+    let length = clause.len();
+    let middle = (from as usize).min(length);
     match find_free(assignment, clause, skipped, middle, length) {
         Some(place) => Some(place),
         None => find_free(assignment, clause, skipped, 0, middle),

@@ -4,16 +4,13 @@ use Rattle.std.specs.Option.{option_map}
 use Rattle.std.proofs.lemmas.Option.{slice_get-map, slice_get_read}
 use Rattle.clause_base.specs.View.{shifted}
 use Rattle.clause_base.proofs.PieceLemmas.{drop_at}
-use Rattle.clause_base.proofs.RepeatLemmas.{length_map}
+use Rattle.clause_base.proofs.ViewLemmas.{within}
 use Rattle.clause_base.proofs.view.View.get.Goals as goal
 
 -- the item of a renamed list
 read_at : (f : ℕ → ℕ) (lits now : List ℕ) (place lit moved : ℕ) → map f lits ≡ now → place < length lits → slice_get lits place ≡ Some lit → moved ≡ f lit → slice_get now place ≡ Some moved
 read_at f lits now place lit moved v lt at is =
     ap (λ (xs : List ℕ). slice_get xs place) (sym v) ∙ slice_get-map f lits place ∙ ap (option_map f) at ∙ ap (λ (x : ℕ). Some x) (sym is)
-
-within : (f : ℕ → ℕ) (lits now : List ℕ) (place : ℕ) → map f lits ≡ now → place < length now → place < length lits
-within f lits now place v lt = let l = length_map f lits in let e = ap (λ (xs : List ℕ). length xs) v in omega arith
 
 pub returns-clause-rest : goal.returns-clause-rest
 returns-clause-rest c =
