@@ -52,7 +52,7 @@ clause_of_step cl slots t slot step number clause i h es en at =
     let below : step * t.size + place < t.part.horizon * t.size = part_below t.part.horizon t.size step place placed.inside (omega (arith, placed.first, placed.last)) in
     let whole : t.before + (step * t.size + place) ≡ number = omega (arith, placed.first) in
     let read : slice_get (all_steps t.part) (step * t.size + place) ≡ Some clause =
-        subst (λ (s : ℕ). slice_get (all_steps t.part) (step * s + place) ≡ Some clause) (sym (i.sized step placed.inside)) at in
+    subst (λ (s : ℕ). slice_get (all_steps t.part) (step * s + place) ≡ Some clause) (sym (i.sized step placed.inside)) at in
     ap (λ (o : Option (List ℕ)). unwrap_or o []) (sym read ∙ i.same (step * t.size + place) below) ∙ ap (λ (n : ℕ). clause_at cl n) whole
 
 -- the clauses of the steps stand after those that come before them

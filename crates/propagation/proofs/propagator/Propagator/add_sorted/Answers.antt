@@ -134,7 +134,7 @@ invariant_of-self-2 c =
     (subst (λ (ys : List ℕ). IsTaken k c.count-number.result (2 * c.assignment-assignment.result.variables) ys t.slots.items l
     c.take_slot.new.slots.items c.take_slot.new.lists) (told a)
     (subst (λ (ls : List ℕ). IsTaken ls c.count-number.result (2 * c.assignment-assignment.result.variables) c.assignment-assignment.result.trail
-        t.slots.items l c.take_slot.new.slots.items c.take_slot.new.lists) lits c.take_slot.ensures.taken)) in
+    t.slots.items l c.take_slot.new.slots.items c.take_slot.new.lists) lits c.take_slot.ensures.taken)) in
     let t' : Tables = record { store = c.push.new.self; kept = c.push-2.new.self; slots = c.take_slot.new.slots; steps = t.steps } in
     let done : IsAddedTo w.variables t l trail w.quiet.items k c.count-number.result c.in_ok-entered.entered t' c.take_slot.new.lists c.raise.new.pending c.raise.new.quiet.items = record {
       lawful = c.requires.lawful;
@@ -148,10 +148,10 @@ invariant_of-self-2 c =
       kept = c.in_ok-push-2.ensures.items;
       taken = taken;
       calm = subst (λ (ys : List ℕ). IsQuietBelow k ys c.in_ok-entered.entered.low) (told a)
-        (subst (λ (ls : List ℕ). IsQuietBelow ls c.assignment-assignment.result.trail c.in_ok-entered.entered.low) lits c.in_ok-entered.ensures.quiet);
+          (subst (λ (ls : List ℕ). IsQuietBelow ls c.assignment-assignment.result.trail c.in_ok-entered.entered.low) lits c.in_ok-entered.ensures.quiet);
       ask = subst (λ (ys : List ℕ). c.in_ok-entered.entered.low ≤ length ys → IsAsk (has_literal ys) k c.in_ok-entered.entered.ask) (told a)
           (subst (λ (ls : List ℕ). c.in_ok-entered.entered.low ≤ length c.assignment-assignment.result.trail
-            → IsAsk (has_literal c.assignment-assignment.result.trail) ls c.in_ok-entered.entered.ask) lits c.in_ok-entered.ensures.ask);
+          → IsAsk (has_literal c.assignment-assignment.result.trail) ls c.in_ok-entered.entered.ask) lits c.in_ok-entered.ensures.ask);
       raised = subst (λ (p : Pending). IsRaised trail c.count-number.result c.in_ok-entered.entered p c.raise.new.pending) c.take_slot.ensures.pending
           (subst (λ (ys : List ℕ). IsRaised ys c.count-number.result c.in_ok-entered.entered c.take_slot.new.lists.pending c.raise.new.pending)
           (told a) c.raise.ensures.raised);

@@ -22,5 +22,5 @@ returns c =
     (record { part = c.in_ok-part.part; before = c.count-before.result; size = c.min-size.result; of_slots = c.in_ok-of_slots.of_slots }) c.horizon-steps.result e
     c.count-before.ensures.value part c.horizon-steps.ensures.value
     (size_same p.told.now p.after.now cl p.repeated.now c.in_ok-part.part c.step.result.now c.count-all.result c.min-size.result
-        e c.count-few.ensures.few part c.step.ensures c.count-all.ensures.value c.min-size.ensures)
+    e c.count-few.ensures.few part c.step.ensures c.count-all.ensures.value c.min-size.ensures)
     c.in_ok-of_slots.ensures.long c.in_ok-of_slots.ensures.placed
