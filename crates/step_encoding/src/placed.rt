@@ -15,7 +15,7 @@ ghost use Rattle.step_encoding.specs.Laws.{numbers_of, plans_of, refutes_of, set
 
 use crate::form::{FormError, StepForm};
 use crate::joining;
-use crate::limits::MOST_LITERALS;
+use crate::limits::{MOST_LITERALS, PLANNER_LITERALS};
 use crate::steps::Steps;
 use crate::truth::true_actions;
 use action_order::order::Order;
@@ -54,6 +54,18 @@ pub trait Placing: Drop {
         ensures { IfOk result (λ c. AreChains task.now (places task.now order.now) c) };
 }
 
+/// A list in memory that formulas share, with the table of its pairs, where a formula with so many literals may be searched. Where none
+/// may, one formula at most is made, as text, and the table would find no use.
+fn held(alloc: Global, list: ClauseList, literals: u64) -> Result<SharedList, Memory>
+    ensures { IfOk result (λ held. held ≡ list) }
+{
+    let held = SharedList::own(list);
+    if literals > PLANNER_LITERALS {
+        return Ok(held);
+    }
+    held.share(alloc)
+}
+
 /// The clauses of one step, where a formula with so many literals is not too large, in memory that formulas share.
 fn kept_step(
     alloc: Global,
@@ -68,7 +80,7 @@ fn kept_step(
         return Ok(SharedList::own(ClauseList::new(alloc)));
     }
     let step = one_step(alloc, task, chains)?;
-    SharedList::own(step).share(alloc)
+    held(alloc, step, literals)
 }
 
 /// The clauses of the known pairs at one time, where a formula with so many literals is not too large, in memory that
@@ -80,7 +92,7 @@ fn kept_time(alloc: Global, pairs: &Pairs, literals: u64) -> Result<SharedList, 
         return Ok(SharedList::own(ClauseList::new(alloc)));
     }
     let known = one_time(alloc, pairs)?;
-    SharedList::own(known).share(alloc)
+    held(alloc, known, literals)
 }
 
 /// The encoding whose chains go where `P` says. The chains are found once, and how many literals a step has, and the known
