@@ -66,7 +66,7 @@ fn held(alloc: Global, list: ClauseList, literals: u64) -> Result<SharedList, Me
     held.share(alloc)
 }
 
-/// The clauses of one step, where a formula with so many literals is not too large, in memory that formulas share.
+/// The clauses of one step, where a formula with so many literals is not too large.
 fn kept_step(
     alloc: Global,
     task: &Task,
@@ -83,8 +83,7 @@ fn kept_step(
     held(alloc, step, literals)
 }
 
-/// The clauses of the known pairs at one time, where a formula with so many literals is not too large, in memory that
-/// formulas share.
+/// The clauses of the known pairs at one time, where a formula with so many literals is not too large.
 fn kept_time(alloc: Global, pairs: &Pairs, literals: u64) -> Result<SharedList, Memory>
     ensures { IfOk result (λ known. literals ≤ most_literals → known ≡ one_time pairs.now.clauses) }
 {
@@ -97,7 +96,8 @@ fn kept_time(alloc: Global, pairs: &Pairs, literals: u64) -> Result<SharedList, 
 
 /// The encoding whose chains go where `P` says. The chains are found once, and how many literals a step has, and the known
 /// pairs at one time, is counted once. The clauses of one step and of one time are made once, where some formula has them and
-/// is not too large; all formulas have them in the same memory, however many there are and however many steps they have.
+/// is not too large; all formulas that may be searched have them in the same memory, however many there are and however many
+/// steps they have.
 #[derive(Drop)]
 pub struct Placed<'a, P: Placing> {
     task: &'a Task,
