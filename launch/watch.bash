@@ -24,7 +24,7 @@ end_all() {
     # shellcheck disable=SC2086 # numbers, or nothing
     [ -z "$running$watcher$timer" ] || wait $running $watcher $timer
     running='' watcher='' timer=''
-    [ -z "$leftover" ] || rm -f -- "$leftover"
+    [ -z "$leftover" ] || drop_fresh "$leftover"
     [ -z "$room" ] || rm -rf -- "$room"
 } 2>/dev/null
 
