@@ -86,7 +86,7 @@ if [[ " $*" == *' --memory'* || " $*" == *' --seconds'* || " $*" == *' --plan-fi
     take_own "$@"
     [ -z "$plan_file" ] || see_plan_file "${words[@]}"
 fi
-find_or_build "$by" || exit
+find_or_build "${by:-plan_prog}" || exit
 SECONDS=0
 if [ -n "$ended" ]; then
     status=${ended%:*} SECONDS=${ended#*:}
