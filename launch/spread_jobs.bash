@@ -131,7 +131,7 @@ stop_run() {
 run_planner() {
     local folder=$1 n=$2 out=$3 ended=0 limit=$((memory * 1024 * 95 / 100)) until=$((minutes * 60 - 5)) begun=$SECONDS pause=0.02
     shift 3
-    (ulimit -v "$limit"; exec "${tie[@]}" "$folder/task/planner" "$@") >"$out" 2>/dev/null </dev/null 9>&- &
+    (ulimit -d "$limit"; exec "${tie[@]}" "$folder/task/planner" "$@") >"$out" 2>/dev/null </dev/null 9>&- &
     running=$!
     megabytes=0
     while kill -0 "$running" 2>/dev/null; do

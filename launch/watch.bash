@@ -29,13 +29,14 @@ end_all() {
 } 2>/dev/null
 
 # start_program WORD..: starts the program in the background, with this process's standard input, within the memory that was
-# asked for. Where the system can do that, it ends with this process, whatever ends that.
+# asked for. The limit is on data, and not on the address space: within that the main stack could not grow, and a run that had
+# memory left would end by a signal. Where the system can do that, it ends with this process, whatever ends that.
 start_program() {
     local tie=()
     [ "$tied" != yes ] || tie=(setpriv --pdeathsig KILL)
     if [ -n "$memory" ]; then
         # Where the system allows less, that is what there is.
-        (ulimit -v $((memory * 1024)) 2>/dev/null; exec "${tie[@]}" "$program" "$@") <&0 &
+        (ulimit -d $((memory * 1024)) 2>/dev/null; exec "${tie[@]}" "$program" "$@") <&0 &
     else
         "${tie[@]}" "$program" "$@" <&0 &
     fi
