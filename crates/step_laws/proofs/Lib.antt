@@ -15,3 +15,4 @@ pub mod AllBackward
 pub mod AllWays
 pub mod AllReading
 pub mod AllWriting
+pub mod NeverLaw
