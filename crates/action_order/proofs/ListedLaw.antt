@@ -10,7 +10,6 @@ use Rattle.action_order.specs.Graph.{leads, item, class_at, IsGraph, IsClassed}
 use Rattle.action_order.specs.Quotient.{IsQuotient, AreNames}
 use Rattle.action_order.specs.Sorting.{IsTakenNext, AreTaken, IsTopologicalOrder}
 use Rattle.std.specs.Prelude.{if◌then◌else◌}
-use Rattle.gt_core.specs.Published.{order_of}
 use Rattle.action_order.specs.Order.{name_in}
 use Rattle.action_order.specs.Group.{members, listed}
 use Rattle.action_order.proofs.Lists.{in_push, in_push_new, in_push_old}
@@ -223,13 +222,6 @@ module _ (targets : List (List ℕ)) (classes roots : List ℕ) (rows : List (Li
         | inl e ↦ absurd (s (sym (test_same c (class_at classes a) e)))
         | inr j ↦ j
       ])))
-
-  pub listed_below : (order : List ℕ) (a : ℕ) → is_in (order_of (listed classes order)) a ≡ true → a < length targets
-  listed_below [] a i = absurd (let f : false ≡ true = i in cc)
-  listed_below (c ∷ order) a i = elim (in_split (members classes c) (order_of (listed classes order)) a i) [
-    | inl j ↦ (member_of c a j).0
-    | inr j ↦ listed_below order a j
-  ]
 
 -- a name by the number of its component
 pub name_item : (names classes : List ℕ) (a : ℕ) → a < length classes → item (map (item names) classes) a ≡ item names (class_at classes a)

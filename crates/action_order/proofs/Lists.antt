@@ -1,6 +1,5 @@
 use Rattle.std.proofs.Common.{arith, ◌≡◌, ◌==◌, ℕ, zero, suc, ◌+◌, ◌-◌, ◌<◌, ◌≤◌, List, [], ◌∷◌, ◌++◌, length, take, Bool, true, false, refl, sym, ap, ◌∙◌, subst, ◌⊎◌, inl, inr}
 use Rattle.std.specs.Prelude.{nat_lt}
-use Rattle.std.specs.List.{AllByRecursion}
 use Rattle.std.proofs.lemmas.List.{take_more, get_or_append_left, get_or_push, length_push}
 use Rattle.std.proofs.lemmas.Bool.{cases_lt}
 use Rattle.std.proofs.lemmas.Bool.Decides.{nat_tests}
@@ -140,10 +139,6 @@ last_greatest xs x r l y i =
 
 pub last_in : (xs : List ℕ) (x : ℕ) → IsLast xs x → is_in xs x ≡ true
 last_in xs x l = subst (λ (ys : List ℕ). is_in ys x ≡ true) (sym (front_last xs x l)) (in_push_new (take (length xs - 1) xs) x)
-
--- a fact of each number of a list
-pub each_at_in : (xs : List ℕ) (x : ℕ) {n : ℕ} → AllByRecursion (λ b. b < n) xs → is_in xs x ≡ true → x < n
-each_at_in xs x {n} h i = each_at (λ b. b < n) xs x h (in_among xs x i)
 
 -- one more number at the end of a range
 pub range_push : (n first : ℕ) → range_from first (suc n) ≡ range_from first n ++ (first + n) ∷ []

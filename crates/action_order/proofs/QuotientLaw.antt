@@ -11,14 +11,6 @@ use Rattle.action_order.specs.Sorting.{AreNamedComponents}
 
 -- The rows of the vertices go into those of their components, and the own vertices out of them.
 
--- no row yet
-pub none_united : (targets : List (List ℕ)) (classes : List ℕ) (count : ℕ) (rows : List (List ℕ)) → length rows ≡ count → ((c b : ℕ) → row_has (row_at rows c) b ≡ false) → AreUnited targets classes count (length targets) rows
-none_united targets classes count rows long none = record {
-  long = long;
-  sound = λ c b e. absurd (apart (leads rows c b) e (none c b));
-  complete = λ a b from lt e. absurd (omega arith);
-}
-
 -- the row of one more vertex
 module _ (targets : List (List ℕ)) (classes : List ℕ) (count a : ℕ) (rows : List (List ℕ)) (row : List ℕ) (u : AreUnited targets classes count (a + 1) rows) (lt : a < length targets) (below : class_at classes a < count) (joined : (b : ℕ) → row_has row b ≡ (row_has (row_at rows (class_at classes a)) b || leads targets a b)) where
   abbrev own : ℕ

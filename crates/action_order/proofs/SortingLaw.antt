@@ -21,21 +21,6 @@ module _ (rows : List (List ℕ)) (names classes : List ℕ) where
   reordered taken passed waiting ready more order free left d ready_is covered =
       record { taken_long = d.taken_long; passed_long = d.passed_long; waiting_long = d.waiting_long; waiting_below = d.waiting_below; marks = d.marks; order_below = d.order_below; passed_taken = d.passed_taken; ready_is = ready_is; covered = covered; sorting = d.sorting }
 
-  -- a component that is taken need not be looked at
-  pub taken_before : (taken : List Bool) (passed : List ℕ) (waiting : List (List ℕ)) (ready order free : List ℕ) (c : ℕ) → c < length rows → IsSorting rows names classes taken passed waiting ready order (c ∷ free) → is_taken taken c ≡ true → IsSorting rows names classes taken passed waiting ready order free
-  taken_before taken passed waiting ready order free c lc d is =
-      reordered taken passed waiting ready ready order (c ∷ free) free d d.ready_is (λ x lx e. elim (d.covered x lx e) [
-        | inl r ↦ inl r
-        | inr w ↦ elim w [
-          | inl h ↦ inr (inl h)
-          | inr i ↦ elim (or_split (c == x) (is_in free x) i) [
-            | inl s ↦ let same = test_same c x s in
-                absurd (apart (is_in order c) (sym (d.marks c lc) ∙ is) (subst (λ (y : ℕ). is_in order y ≡ false) (sym same) e))
-            | inr k ↦ inr (inr k)
-          ]
-        ]
-      ])
-
   -- further targets of a component were found taken
   pub passed_more : (taken : List Bool) (passed : List ℕ) (waiting : List (List ℕ)) (ready order free : List ℕ) (c end : ℕ) → AreNamedComponents rows names classes → c < length rows → IsSorting rows names classes taken passed waiting ready order free → ((b : ℕ) → item passed c ≤ b → b < end → leads rows c b ≡ true → is_taken taken (class_at classes b) ≡ true) → IsSorting rows names classes taken (set passed c end) waiting ready order free
   passed_more taken passed waiting ready order free c end n lc d p = record {

@@ -6,16 +6,11 @@ use Rattle.cdcl_rules.specs.declared.event.Event.{Event}
 use Rattle.cdcl_rules.specs.declared.event.Event.TheVariants.{Conflict, Force, Decide, Finish}
 use Rattle.cdcl_rules.specs.Event.{event_of}
 use Rattle.cdcl_rules.specs.Run.{apply, next, rests, is_going, is_conflict}
-use Rattle.cdcl_rules.specs.Machine.{ComesToRest}
 use Rattle.cdcl_rules.proofs.Cutting.{Reaches, turns-add}
 
 waits_false : (going w : Bool) → going ≡ true → w ≡ false → (not going || w) ≡ false
 waits_false true w g h = h
 waits_false false w g h = cc
-
-waits_true : (going w : Bool) → w ≡ true → (not going || w) ≡ true
-waits_true true w h = h
-waits_true false w h = refl
 
 -- one more turn
 pub one_on : (choose : Known → Option ℕ) (limit : ℕ) (x s t : State) (e : Event) → Reaches (next choose) (rests choose) limit x s → is_going s.standing ≡ true → e ≡ event_of choose s → (is_conflict e && nat_le limit s.conflicts) ≡ false → t ≡ apply s e → Reaches (next choose) (rests choose) limit x t
@@ -23,16 +18,6 @@ one_on choose limit x s t e r g is w to =
     let stop : rests choose limit s ≡ false = waits_false (is_going s.standing) (is_conflict (event_of choose s) && nat_le limit s.conflicts) g (rw is at w) in
     let same : t ≡ next choose s = rw is at to in
     (r.0 + 1, turns-add (next choose) (rests choose) limit r.0 1 x ∙ rw (r.1, stop) (sym same))
-
--- a conflict past the limit
-pub rests_here : (choose : Known → Option ℕ) (limit : ℕ) (x s : State) (e : Event) → Reaches (next choose) (rests choose) limit x s → e ≡ event_of choose s → (is_conflict e && nat_le limit s.conflicts) ≡ true → ComesToRest (next choose) (rests choose) limit x s
-rests_here choose limit x s e r is w =
-    record { count = r.0; reached = r.1; at_rest = waits_true (is_going s.standing) (is_conflict (event_of choose s) && nat_le limit s.conflicts) (rw is at w) }
-
--- settled
-pub rests_settled : (choose : Known → Option ℕ) (limit : ℕ) (x s : State) → Reaches (next choose) (rests choose) limit x s → is_going s.standing ≡ false → ComesToRest (next choose) (rests choose) limit x s
-rests_settled choose limit x s r g =
-    record { count = r.0; reached = r.1; at_rest = rw g refl }
 
 below_limit : (c : Bool) (limit n : ℕ) → (c && nat_le limit n) ≡ false → c ≡ true → n < limit
 below_limit true limit n w h = grind (arith, nat_tests)

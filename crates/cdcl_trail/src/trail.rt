@@ -208,16 +208,6 @@ impl Trail {
         self.positions[lit.variable() as usize] + 1
     }
 
-    /// The level at which a false literal became false.
-    pub fn level_of(&self, lit: Lit) -> u32
-        requires { is_on self.now.entries (opposite lit) ≡ true }
-        ensures level { result ≡ level_of self.now.entries lit }
-        ensures below { lit / 2 < self.now.variables }
-        ensures small { self.now.variables ≤ 2147483647 }
-    {
-        self.level_within(self.length_with(lit))
-    }
-
     /// Whether a false literal became false at the current level.
     #[inline]
     pub fn is_current(&self, lit: Lit) -> bool

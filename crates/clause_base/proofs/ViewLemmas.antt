@@ -1,6 +1,6 @@
 -- The literals of a view, by those that stand there.
 use Rattle.std.proofs.Common.{arith, ◌≡◌, ◌∙◌, ℕ, ◌+◌, ◌<◌, ◌≤◌, List, true, false, All, length, get_or, map, sym, ap, subst}
-use Rattle.std.specs.Prelude.{if◌then◌else◌, nat_lt}
+use Rattle.std.specs.Prelude.{nat_lt}
 use Rattle.std.proofs.lemmas.Bool.Decides.{nat_tests}
 use Rattle.std.proofs.lemmas.List.{get_or-map, length-map}
 use Rattle.clause_base.specs.Clause.{IsRising}
@@ -38,15 +38,3 @@ module _ (xs lits : List ℕ) (limit low high place l : ℕ) (value : xs ≡ map
 
   fits : shifted limit low high l ≤ 4294967295
   fits = subst (λ (n : ℕ). n ≤ 4294967295 → shifted limit low high n ≤ 4294967295) (sym read) (moved.codes place 0 inside_lits) small
-
-  pub low_at : l < limit → low + l ≡ get_or xs place 0
-  low_at h = sym (up_low limit low high l h) ∙ at
-
-  pub low_fits : l < limit → low + l ≤ 4294967295
-  low_fits h = subst (λ (n : ℕ). n ≤ 4294967295) (up_low limit low high l h) fits
-
-  pub high_at : limit ≤ l → high + l ≡ get_or xs place 0
-  high_at h = sym (up_high limit low high l h) ∙ at
-
-  pub high_fits : limit ≤ l → high + l ≤ 4294967295
-  high_fits h = subst (λ (n : ℕ). n ≤ 4294967295) (up_high limit low high l h) fits

@@ -182,14 +182,6 @@ pub fn after_numbers(bytes: &[u8], count: usize) -> &[u8]
     rest
 }
 
-/// Adds a number by its step from the one before it. After want of memory the bytes that stood before still stand first.
-pub fn put_step(bytes: &mut Vec<u8>, last: u32, number: u32) -> Result<(), AllocError>
-    ensures ok { OnOk result (bytes.new.items ≡ bytes.old.items ++ bytes_of (step_to last number)) }
-    ensures before { take (length bytes.old.items) bytes.new.items ≡ bytes.old.items }
-{
-    put_number(bytes, step_to(last, number))
-}
-
 /// How many bytes the step between two numbers takes at most.
 pub const MOST_STEP: usize = 5;
 

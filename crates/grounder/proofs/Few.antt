@@ -87,7 +87,3 @@ left_few p test (c ∷ calls) h = here (test c) (left_few p test calls h.1)
     here : (b : Bool) → HaveFew p (filter test calls) → HaveFew p (cond b (c ∷ filter test calls) (filter test calls))
     here true rest = (h.0, rest)
     here false rest = rest
-
--- the effects of a call, as its schema is read
-pub few_read : (p : Parts) (c : Call) (schema : Schema) → slice_get p.schemas c.schema ≡ Some schema → HasFew p c → AllByRecursion (HasFewTuples p) schema.effects
-few_read p c schema at h = subst (HasFewOf p) at h

@@ -18,9 +18,6 @@ never_deleted p a (e ∷ changes) h = (
 )
 
 module _ (p : Parts) (facts : List Atom) (fact_is : (a : Atom) → IsTrue (is_in a facts) ↔ IsFact p a) where
-  pub constant_initial : (a : Atom) → IsConstant p a → is_in a p.init ≡ true
-  constant_initial a is = is.initial
-
   pub constant_no_fact : (a : Atom) → IsConstant p a → is_in a facts ≡ false
   constant_no_fact a is = false_from_ne_true (is_in a facts) (λ t. ((fact_is a).0 t).varies is)
 

@@ -1,6 +1,5 @@
 -- Small tasks, and short words for their parts.
 use Rattle.std.proofs.Common.{ℕ, List, [], ◌∷◌}
-use Rattle.pd_model.specs.declared.atoms.Term.TheVariants.{Variable}
 use Rattle.pd_model.specs.declared.atoms.Atom.{Atom}
 use Rattle.pd_model.specs.declared.conds.Cond.{Cond}
 use Rattle.pd_model.specs.declared.schemas.Schema.{Schema}
@@ -46,15 +45,6 @@ sets_twice_0 = schema [] [] (add [] [] 0 [] ∷ add [] [] 0 [] ∷ [])
 -- adds 0 where 1 is in the state, and deletes it
 abbrev pub may_set_0 : Schema
 may_set_0 = schema [] [] (add [] (has 1 [] ∷ []) 0 [] ∷ delete [] [] 0 [] ∷ [])
-
--- a case is moved from a place to a place (0), and what is in it (2) moves along (1)
-abbrev pub moves_case : Schema
-moves_case = schema (2 ∷ 2 ∷ []) (has 0 (Variable 0 ∷ []) ∷ []) (
-    add [] [] 0 (Variable 1 ∷ []) ∷ delete [] [] 0 (Variable 0 ∷ [])
-    ∷ add (1 ∷ []) (has 2 (Variable 2 ∷ []) ∷ []) 1 (Variable 2 ∷ Variable 1 ∷ [])
-    ∷ delete (1 ∷ []) (has 2 (Variable 2 ∷ []) ∷ []) 1 (Variable 2 ∷ Variable 0 ∷ [])
-    ∷ []
-    )
 
 abbrev pub place_object : ObjectDecl
 place_object = object_of_type 2

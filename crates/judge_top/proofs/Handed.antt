@@ -36,10 +36,6 @@ pub task_handed : (domain problem : List ℕ) (answers : Parts → Grounded → 
     → IsErrAnd r (λ told. told ≡ stop) → EndsBy claim stop → EndsWith (OnceReady domain problem answers) r
 task_handed domain problem answers task g are is claim more = handed claim (OnceReady domain problem answers) (λ end h. ready task g are is (more end h))
 
--- of want of memory nothing is said
-pub memory_handed : (claim : Ended → Type 0) (r : Result Ended Stop) → IsErrAnd r (λ told. told ≡ Memory) → EndsWith claim r
-memory_handed claim r is = let p = err_from_is_err_and r is in rw (p.1, p.2) tt
-
 -- the ending that there is, is of the kind that was answered
 pub end_answers : (claim : Ended → Type 0) (r : Result Ended Stop) (end : Ended) → EndsWith claim r → Some end ≡ end_in r → claim end
 end_answers claim (Ok other) end h is = let same : other ≡ end = cc in subst claim same h

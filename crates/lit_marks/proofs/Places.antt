@@ -3,11 +3,16 @@ use Rattle.std.proofs.Math.Bool.{or-true, or-false}
 use Rattle.std.proofs.lemmas.List.{nil_from_length}
 use Rattle.std.proofs.lemmas.List.Folds.{list_any-append}
 use Rattle.std.proofs.lemmas.Bool.Decides.{nat_tests}
-use Rattle.clause_base.specs.Clause.{put, has_literal}
+use Rattle.std.specs.List.{list_any}
+use Rattle.containers.specs.Rising.{put}
 use Rattle.lit_marks.specs.Marks.{places, at, Covers}
 
-has-push : (ls : List ℕ) (l m : ℕ) → has_literal (ls ++ l ∷ []) m ≡ (has_literal ls m || (l == m))
-has-push ls l m = list_any-append (λ k. k == m) ls (l ∷ []) ∙ ap (λ (b : Bool). has_literal ls m || b) (or-false (l == m))
+-- a number is among these
+abbrev pub is_among : List ℕ → ℕ → Bool
+is_among numbers k = list_any (λ m. m == k) numbers
+
+has-push : (ls : List ℕ) (l m : ℕ) → is_among (ls ++ l ∷ []) m ≡ (is_among ls m || (l == m))
+has-push ls l m = list_any-append (λ k. k == m) ls (l ∷ []) ∙ ap (λ (b : Bool). is_among ls m || b) (or-false (l == m))
 
 -- all of a list is at or past a number
 abbrev pub IsFrom : ℕ → List ℕ → Type 0
@@ -23,20 +28,20 @@ from_places v [] = tt
 from_places v (true ∷ on) = (omega arith, from_less v (v + 1) (places (v + 1) on) (omega arith) (from_places (v + 1) on))
 from_places v (false ∷ on) = from_less v (v + 1) (places (v + 1) on) (omega arith) (from_places (v + 1) on)
 
-pub not_from : (v k : ℕ) (ls : List ℕ) → k < v → IsFrom v ls → has_literal ls k ≡ false
+pub not_from : (v k : ℕ) (ls : List ℕ) → k < v → IsFrom v ls → is_among ls k ≡ false
 not_from v k [] h f = refl
 not_from v k (l ∷ ls) h f = let e : (l == k) ≡ false = grind (arith, nat_tests, f.0) in rw e (not_from v k ls h f.1)
 
 -- the members of the places
-pub has-places : (v : ℕ) (on : List Bool) (k : ℕ) → has_literal (places v on) (v + k) ≡ at on k
+pub has-places : (v : ℕ) (on : List Bool) (k : ℕ) → is_among (places v on) (v + k) ≡ at on k
 has-places v [] k = refl
 has-places v (true ∷ on) zero = let e : (v == v + 0) ≡ true = grind (arith, nat_tests) in rw e
 has-places v (false ∷ on) zero = not_from (v + 1) (v + 0) (places (v + 1) on) (omega arith) (from_places (v + 1) on)
 has-places v (true ∷ on) (suc k) =
     let e : (v == v + suc k) ≡ false = grind (arith, nat_tests) in
     let s : v + suc k ≡ v + 1 + k = omega arith in
-    rw e (ap (has_literal (places (v + 1) on)) s ∙ has-places (v + 1) on k)
-has-places v (false ∷ on) (suc k) = let s : v + suc k ≡ v + 1 + k = omega arith in ap (has_literal (places (v + 1) on)) s ∙ has-places (v + 1) on k
+    rw e (ap (is_among (places (v + 1) on)) s ∙ has-places (v + 1) on k)
+has-places v (false ∷ on) (suc k) = let s : v + suc k ≡ v + 1 + k = omega arith in ap (is_among (places (v + 1) on)) s ∙ has-places (v + 1) on k
 
 put_front : (v : ℕ) (ls : List ℕ) → IsFrom (v + 1) ls → put ls v ≡ v ∷ ls
 put_front v [] f = refl
@@ -83,19 +88,19 @@ abbrev pub bit : Bool → ℕ
 bit true = 1
 bit false = 0
 
-covers_in : (touched : List ℕ) (lit m : ℕ) (same : Bool) → (lit == m) ≡ same → has_literal (touched ++ lit ∷ []) m ≡ true → (same ≡ false) → has_literal touched m ≡ true
+covers_in : (touched : List ℕ) (lit m : ℕ) (same : Bool) → (lit == m) ≡ same → is_among (touched ++ lit ∷ []) m ≡ true → (same ≡ false) → is_among touched m ≡ true
 covers_in touched lit m true e h f = cc
-covers_in touched lit m false e h f = or_false_right (has_literal touched m) (lit == m) e (sym (has-push touched lit m) ∙ h)
+covers_in touched lit m false e h f = or_false_right (is_among touched m) (lit == m) e (sym (has-push touched lit m) ∙ h)
   where
     or_false_right : (a b : Bool) → b ≡ false → (a || b) ≡ true → a ≡ true
     or_false_right true b e h = refl
     or_false_right false b e h = cc
 
-in_more : (touched : List ℕ) (lit m : ℕ) → has_literal touched m ≡ true → has_literal (touched ++ lit ∷ []) m ≡ true
+in_more : (touched : List ℕ) (lit m : ℕ) → is_among touched m ≡ true → is_among (touched ++ lit ∷ []) m ≡ true
 in_more touched lit m h = rw (has-push touched lit m, h)
 
-in_last : (touched : List ℕ) (lit : ℕ) → has_literal (touched ++ lit ∷ []) lit ≡ true
-in_last touched lit = let e : (lit == lit) ≡ true = grind (arith, nat_tests) in rw (has-push touched lit lit, e) (or-true (has_literal touched lit))
+in_last : (touched : List ℕ) (lit : ℕ) → is_among (touched ++ lit ∷ []) lit ≡ true
+in_last touched lit = let e : (lit == lit) ≡ true = grind (arith, nat_tests) in rw (has-push touched lit lit, e) (or-true (is_among touched lit))
 
 pub at-set : (on : List Bool) (i m : ℕ) (b same : Bool) → i < length on → (i == m) ≡ same → at (set on i b) m ≡ (if same then b else at on m)
 at-set on i m b true h e = let s : m ≡ i = grind (arith, nat_tests) in rw (s) (get_or-set_same on i b false h)
@@ -168,5 +173,5 @@ put_new on i h = places-put 0 on i h ∙ ap (put (places 0 on)) (zero-add i)
 pub removed : (on : List Bool) (i : ℕ) → i < length on → places 0 (set on i false) ≡ filter (λ l. not (l == i)) (places 0 on)
 removed on i h = places-remove 0 on i h ∙ ap (λ k. filter (λ l. not (l == k)) (places 0 on)) (zero-add i)
 
-pub in_places : (on : List Bool) (k : ℕ) → has_literal (places 0 on) k ≡ at on k
-in_places on k = ap (has_literal (places 0 on)) (sym (zero-add k)) ∙ has-places 0 on k
+pub in_places : (on : List Bool) (k : ℕ) → is_among (places 0 on) k ≡ at on k
+in_places on k = ap (is_among (places 0 on)) (sym (zero-add k)) ∙ has-places 0 on k

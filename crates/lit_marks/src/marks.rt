@@ -1,17 +1,17 @@
-ghost use Rattle.std.specs.Prelude.{◌≡◌, ◌<◌, ◌≤◌, ◌*◌, [], true, length, slice_set, IfOk, OnOk, OnErr};
-ghost use Rattle.clause_base.specs.Clause.{has_literal, put};
+ghost use Rattle.std.specs.Prelude.{◌≡◌, ◌<◌, ◌≤◌, ◌*◌, ◌==◌, [], true, length, slice_set, IfOk, OnOk, OnErr};
+ghost use Rattle.std.specs.List.{list_any};
+ghost use Rattle.containers.specs.Rising.{put};
 ghost use Rattle.lit_marks.specs.Marks.{places, at};
 
-use clause_base::literal::Lit;
-use clause_base::memory::Memory;
+use containers::memory::Memory;
 use std::alloc::Global;
 use std::marker::Model;
 
-/// A set of literals: for each by its code whether it is in, and which were put in since it was empty.
+/// A set of numbers: for each whether it is in, and which were put in since it was empty.
 #[derive(Drop)]
 pub struct Marks {
     on: Vec<bool>,
-    touched: Vec<Lit>,
+    touched: Vec<u32>,
 }
 
 impl Model for Marks {
@@ -26,7 +26,7 @@ impl Model for Marks {
 }
 
 impl Marks {
-    /// The set without literals, over so many variables.
+    /// The set without numbers, over twice so many: the codes of the literals of so many variables.
     pub fn new(alloc: Global, variables: u32) -> Result<Marks, Memory>
         requires { variables ≤ 2147483647 }
         ensures empty { IfOk result (λ d. places 0 d ≡ []) }
@@ -38,34 +38,34 @@ impl Marks {
         })
     }
 
-    /// Whether a literal is in.
-    pub fn has(&self, lit: Lit) -> bool
-        requires { lit < length self.now }
-        ensures mark { result ≡ at self.now lit }
-        ensures member { result ≡ has_literal (places 0 self.now) lit }
+    /// Whether a number is in.
+    pub fn has(&self, number: u32) -> bool
+        requires { number < length self.now }
+        ensures mark { result ≡ at self.now number }
+        ensures member { result ≡ list_any (λ m. m == number) (places 0 self.now) }
     {
-        self.on[lit.0 as usize]
+        self.on[number as usize]
     }
 
-    /// Puts a literal in.
-    pub fn put(&mut self, lit: Lit) -> Result<(), Memory>
-        requires { lit < length self.old }
-        ensures ok { OnOk result (self.new ≡ slice_set self.old lit true) }
-        ensures put { OnOk result (places 0 self.new ≡ put (places 0 self.old) lit) }
+    /// Puts a number in.
+    pub fn put(&mut self, number: u32) -> Result<(), Memory>
+        requires { number < length self.old }
+        ensures ok { OnOk result (self.new ≡ slice_set self.old number true) }
+        ensures put { OnOk result (places 0 self.new ≡ put (places 0 self.old) number) }
         ensures err { OnErr result (self.new ≡ self.old) }
     {
-        self.touched.push(lit)?;
-        self.on[lit.0 as usize] = true;
+        self.touched.push(number)?;
+        self.on[number as usize] = true;
         Ok(())
     }
 
-    /// Takes all literals out.
+    /// Takes all numbers out.
     pub fn clear(&mut self)
         ensures emptied { places 0 self.new ≡ [] }
         ensures len { length self.new ≡ length self.old }
     {
         while let Some(touched) = self.touched.pop() {
-            self.on[touched.0 as usize] = false;
+            self.on[touched as usize] = false;
         }
     }
 }

@@ -4,7 +4,6 @@ pub mod States
 pub mod Alike
 mod Rows
 mod Tried
-pub mod ByTest
 pub mod Tasks
 pub mod TypeWalk
 pub mod Rooted

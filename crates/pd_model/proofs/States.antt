@@ -36,15 +36,6 @@ removed s n x h a =
     sym (any_tied a n) ∙ h a ∙ (λ i. cond (tied x a i) false (any_tied a s i))
     ∙ and_by_cond (same_atom x a) (is_in a s) ∙ sym (is_in-filter a (λ b. not (same_atom x b)) s)
 
-in_either : (ks k s : Bool) → (ks || (k || s)) ≡ (k || (ks || s))
-in_either ks k s = grind arith
-
--- an atom goes over from one state into another, and both together stay as they are
-pub goes_over : (k : Atom) (ks s n whole : List Atom) → SameState n (k ∷ s) → SameState ((k ∷ ks) ++ s) whole → SameState (ks ++ n) whole
-goes_over k ks s n whole added both a =
-    list_any-append (same_atom a) ks n ∙ (λ i. is_in a ks || added a i) ∙ in_either (is_in a ks) (same_atom a k) (is_in a s)
-    ∙ (λ i. same_atom a k || sym (list_any-append (same_atom a) ks s) i) ∙ both a
-
 in_neither : (ks k s : Bool) → (not ks && (not k && s)) ≡ (not (k || ks) && s)
 in_neither ks k s = grind arith
 

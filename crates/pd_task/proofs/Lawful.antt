@@ -32,10 +32,6 @@ use Rattle.pd_task.specs.Effects.{Site, and_effect, removed, removal, literals, 
 abbrev pub Passes : {A : Type 0} → (A → Bool) → Result A Fault → Type 0
 Passes test read = IfOk read (λ x. test x ≡ true)
 
-pub anything : {A : Type 0} (read : Result A Fault) → IfOk read (λ _. Unit {0})
-anything (Ok x) = tt
-anything (Err e) = tt
-
 -- whatever the first step's value is
 pub bind_any : {A B : Type 0} (Q : B → Type 0) (read : Result A Fault) (next : A → Result B Fault) → ((x : A) → IfOk (next x) Q) → IfOk (read >>= next) Q
 bind_any Q (Ok x) next more = more x

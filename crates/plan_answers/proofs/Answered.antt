@@ -1,5 +1,5 @@
 -- The files of a request, and what is handed on.
-use Rattle.std.proofs.Common.{◌≡◌, ◌≤◌, ◌<◌, ◌∙◌, ℕ, Bool, List, [], ◌∷◌, length, Result, refl, subst, ap, arith}
+use Rattle.std.proofs.Common.{◌≡◌, ◌<◌, ◌∙◌, ℕ, Bool, List, [], ◌∷◌, length, Result, refl, subst, ap, arith}
 use Rattle.std.specs.Prelude.{IsErrAnd}
 use Rattle.std.specs.List.{AllByRecursion}
 use Rattle.std.proofs.lemmas.List.{length-map}
@@ -11,8 +11,8 @@ use Rattle.requests.specs.declared.request.Request.{Request}
 use Rattle.grounding_laws.specs.Grounded.{Grounded, IsGrounded}
 use Rattle.race_end.specs.declared.end.RaceEnd.{RaceEnd}
 use Rattle.race_end.specs.declared.end.RaceEnd.TheVariants as races
-use Rattle.race_end.specs.Ends.{EndView, end_view, lines_in, conflicts_in}
-use Rattle.race.specs.Ends.{WherePlanned, AreActions, SumsWithin}
+use Rattle.race_end.specs.Ends.{EndView, end_view}
+use Rattle.race.specs.Ends.{WherePlanned, AreActions}
 use Rattle.plan_report.specs.Laws.{HasActionsBelow}
 use Rattle.input_files.specs.declared.stop.Stop.{Stop}
 use Rattle.plan_endings.specs.declared.ending.Ending.{Ending}
@@ -59,8 +59,3 @@ actions_below task g is (races.Plan horizon steps lines) members =
     subst (λ (n : ℕ). AllByRecursion (λ (set : List ℕ). AllByRecursion (λ (a : ℕ). a < n) set) steps) long members
 actions_below task g is (races.Exhausted horizon lines) members = tt
 actions_below task g is (races.Unfinished lines) members = tt
-
-pub sums_small : (budget : ℕ) (race : RaceEnd) → SumsWithin budget race → conflicts_in (lines_in (end_view race)) ≤ budget
-sums_small budget (races.Plan horizon steps lines) sums = sums
-sums_small budget (races.Exhausted horizon lines) sums = sums
-sums_small budget (races.Unfinished lines) sums = let e : conflicts_in (lines_in (end_view (races.Unfinished lines))) ≡ budget = sums in omega arith

@@ -1,5 +1,5 @@
 -- The parts of a batch: from its files to an ending for each problem.
-use Rattle.std.proofs.Common.{◌≡◌, ◌≤◌, ◌<◌, ℕ, ◌+◌, true, false, List, [], ◌∷◌, ◌++◌, length, Option, Some, None, refl, sym, subst, arith, inl, inr, ◌∙◌}
+use Rattle.std.proofs.Common.{◌≡◌, ◌≤◌, ℕ, ◌+◌, true, false, List, [], ◌∷◌, ◌++◌, length, Option, Some, None, refl, sym, subst, arith, inl, inr, ◌∙◌}
 use Rattle.pl_io.specs.Outside.{Heard}
 use Rattle.std.specs.List.{AllByRecursion, AllZip}
 use Rattle.horizon_rates.specs.declared.settings.Settings.{Settings}
@@ -112,9 +112,6 @@ module _ (took : List Heard) (old new : List (List ℕ)) (settings : Settings) (
 
   met_count : (files : List (Option (List ℕ))) → AreMet files → length files ≡ length (is.0 ∷ is.1)
   met_count files are = kept_count IsWholeOrFront (file_at (batches is.0 is.1 (numbers settings) turns)) 0 (is.0 ∷ is.1) took files (met_batch files are)
-
-  pub some_files : (files : List (Option (List ℕ))) → AreMet files → 0 < length files
-  some_files files are = let count = met_count files are in omega (arith, count)
 
   files_short : (files : List (Option (List ℕ))) → AreMet files → AllByRecursion IsShort files
   files_short files are = all_short old new is.0 is.1 settings turns 0 (is.0 ∷ is.1) took files (met_batch files are)

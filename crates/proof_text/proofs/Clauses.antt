@@ -48,6 +48,3 @@ stays_next codes rest l ms s e g = (
   (λ c. s.0 (subst IsClause (sym e) (clause_cons l ms g c))),
   λ c. (clause_uncons l ms (subst IsClause e (s.1 c))).1,
 )
-
-pub stays_none : (codes rest : List ℕ) (l : ℕ) (ms : List ℕ) → StaysClause codes rest → rest ≡ l ∷ ms → (GoesBefore l ms → ⊥) → IsClause codes → ⊥
-stays_none codes rest l ms s e cannot c = cannot (clause_uncons l ms (subst IsClause e (s.1 c))).0

@@ -102,9 +102,6 @@ pub small-push : (ns : List ℕ) (n : ℕ) → AreSmall ns → n ≤ 4294967295 
 small-push [] n are is = (is, tt)
 small-push (m ∷ ns) n are is = (are.0, small-push ns n are.1 is)
 
-pub nothing_yet : (bytes : List ℕ) → IsReading bytes [] bytes
-nothing_yet bytes = record { text = refl; small = tt; ended = λ no. absurd (no refl) }
-
 pub one_more : (bytes ns rest digits others : List ℕ) (n : ℕ) → IsReading bytes ns rest → rest ≡ 32 ∷ digits → digits ≡ decimal n ++ others → Stops others → n ≤ 4294967295
     → IsReading bytes (ns ++ n ∷ []) others
 one_more bytes ns rest digits others n r e f stops small = record {
@@ -112,9 +109,6 @@ one_more bytes ns rest digits others n r e f stops small = record {
   small = small-push ns n r.small small;
   ended = λ some. stops;
 }
-
-pub all_read : (bytes ns rest : List ℕ) → IsReading bytes ns rest → (BeginsNumber rest → ⊥) → ReadsNumbers bytes ns rest
-all_read bytes ns rest r last = record { text = r.text; small = r.small; ended = r.ended; last = last }
 
 pub none_there : (bytes ns rest digits : List ℕ) → IsReading bytes ns rest → rest ≡ 32 ∷ digits → BeginsDigit digits → HasNoNumber digits → HasNoNumbers bytes
 none_there bytes ns rest digits r e begins none ms vs small ends text =

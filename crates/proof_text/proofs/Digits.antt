@@ -17,9 +17,6 @@ pub record HasRead (bytes : List ℕ) (number : ℕ) (rest : List ℕ) : Type 0 
   pub value : number ≡ digits_value 10 digits
   pub small : number ≤ 4294967295
 
-pub nothing_read : (bytes : List ℕ) → HasRead bytes 0 bytes
-nothing_read bytes = record { digits = []; text = refl; all = tt; value = refl; small = omega arith }
-
 digits_push : (ds : List ℕ) (d : ℕ) → AllDigits 10 ds → IsDigit d → AllDigits 10 (ds ++ d ∷ [])
 digits_push [] d all is = (is, tt)
 digits_push (x ∷ ds) d all is = (all.0, digits_push ds d all.1 is)

@@ -215,17 +215,6 @@ unfit_here bytes horizon log rest at p some none place =
       unfit = λ line more e is. none is.0 more is.1 (e ∙ of_line line more is);
     }
 
-pub unfit_first : (bytes : List ℕ) → ((horizon : ℕ) (rest : List ℕ) → horizon ≤ 255 → bytes ≡ first_then horizon rest → ⊥) → IsUnfitAt bytes 0
-unfit_first bytes none = record {
-  lines = [];
-  rest = bytes;
-  text = refl;
-  place = refl;
-  fit = tt;
-  left = λ empty. refl;
-  unfit = λ line more e is. none is.0 more is.1 (e ∙ of_first line more is);
-}
-
 pub parsed_first : (bytes : List ℕ) (horizon : ℕ) (rest : List ℕ) → horizon ≤ 255 → bytes ≡ first_then horizon rest → IsParsed bytes horizon [] rest
 parsed_first bytes horizon rest small text = record { text = text; small = small; written = tt }
 

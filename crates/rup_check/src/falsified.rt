@@ -44,7 +44,7 @@ impl Falsified {
         requires { lit / 2 < self.now.variables }
         ensures { result ≡ has_literal self.now.falsified lit }
     {
-        self.marks.has(lit)
+        self.marks.has(lit.0)
     }
 
     /// Takes the literal as false.
@@ -53,7 +53,7 @@ impl Falsified {
         ensures falsified { OnOk result (self.new.falsified ≡ put self.old.falsified lit) }
         ensures variables { self.new.variables ≡ self.old.variables }
     {
-        self.marks.put(lit)
+        self.marks.put(lit.0)
     }
 
     /// Takes no literal as false any more. Only those that were are looked at.

@@ -1,10 +1,10 @@
 -- A reader that has read a text reads on.
-use Rattle.std.proofs.Common.{arith, ◌≡◌, ◌+◌, ℕ, List, [], ◌∷◌, ◌++◌, length, Bool, true, false, Option, Some, None, refl, sym, ap, ◌∙◌, subst, length-append, append_assoc}
+use Rattle.std.proofs.Common.{◌≡◌, ◌+◌, ℕ, List, [], ◌∷◌, ◌++◌, length, Bool, true, false, Option, Some, None, refl, sym, ap, ◌∙◌, subst}
 use Rattle.sat_text.specs.Lines.{whole_lines, last_part, has_no_end, counted}
 use Rattle.sat_text.proofs.Texts.{last_on, last_more}
 use Rattle.sat_text.proofs.Pieces as pieces
-use Rattle.sat_text.specs.Values.{Told, with_line, Outcome, Stops, Tells, after_lines, Reading, NoText, Values, values_told, reading_of, model_of}
-use Rattle.sat_text.specs.Stands.{Table, Holds, ReaderView, HasTold, Goes, HasRead}
+use Rattle.sat_text.specs.Values.{Told, with_line, Outcome, Stops, Tells, after_lines, NoText, Values, values_told, reading_of, model_of}
+use Rattle.sat_text.specs.Stands.{ReaderView, HasTold, Goes, HasRead}
 use Rattle.sat_text.proofs.ValueNumbers.{went, went_not}
 use Rattle.sat_text.proofs.ValueMarks.{row_is, values_long}
 
@@ -100,10 +100,6 @@ module _ (variables : ℕ) (text : List ℕ) (reader : ReaderView) (read : HasRe
         let still : t.0.ended ≡ false = sym t.2.ended ∙ going in
         let all : reading_of variables (length text) (Tells t.0) ≡ NoText (counted (length text)) = rw still refl in
         reads ∙ all ∙ ap NoText (sym is)
-
--- nothing was read
-pub read_none : (variables : ℕ) (reader : ReaderView) → HasTold variables nothing reader → reader.at ≡ 0 → reader.front ≡ [] → HasRead variables [] reader
-read_none variables reader has at front = record { told = nothing; at = 0; has = has; at_is = at; leads = λ more. refl; front = front; begins = refl }
 
 -- the values of a text are as many as the variables
 pub values_are : (variables : ℕ) (text : List ℕ) (values : List Bool) → model_of variables text ≡ Values values → length values ≡ variables

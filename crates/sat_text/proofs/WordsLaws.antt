@@ -257,9 +257,6 @@ natural_large (b ∷ digits) large = by (list_all is_ascii_digit (b ∷ digits))
 pub digits_more : (b : ℕ) (bytes : List ℕ) → is_ascii_digit b ≡ true → (digits_front (b ∷ bytes) ≡ b ∷ digits_front bytes) × (after_digits (b ∷ bytes) ≡ after_digits bytes)
 digits_more b bytes d = (rw d refl, rw d refl)
 
-pub digits_end : (b : ℕ) (bytes : List ℕ) → is_ascii_digit b ≡ false → (digits_front (b ∷ bytes) ≡ []) × (after_digits (b ∷ bytes) ≡ b ∷ bytes)
-digits_end b bytes d = (rw d refl, rw d refl)
-
 -- the first digit is the first byte, where there is a digit
 pub first_digit : (bytes : List ℕ) → 0 < length (digits_front bytes) → get_or (digits_front bytes) 0 0 ≡ get_or bytes 0 0
 first_digit [] some = refl

@@ -33,10 +33,6 @@ times_push h ns n e =
 times_grow : (h : ℕ) (ns : List Note) (n : Note) → count_of h ns ≤ count_of h (ns ++ n ∷ [])
 times_grow h ns n = omega (arith, sum_by_push (λ (m : Note). one_if (m.key == h)) ns n)
 
-one_if_le : (b : Bool) → one_if b ≤ 1
-one_if_le true = omega arith
-one_if_le false = omega arith
-
 is_over : (b : Bool) → one_if (not b) ≡ 0 → b ≡ true
 is_over true e = refl
 is_over false e = absurd (omega (arith, e))

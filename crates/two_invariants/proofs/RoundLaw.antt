@@ -50,14 +50,6 @@ module _ (facts : ℕ) (known : Known) (clauses : List (List ℕ)) (acts : List 
   abbrev breaks_at : ℕ → ℕ → ℕ → Bool
   breaks_at i l m = breaks_by facts known (act_at acts (slice_index todo i)) l m
 
-  -- nothing is lost where none was tested
-  pub no_losses : (low high : ℕ) (lost : List (List ℕ)) → high ≤ low → length lost ≡ 2 * facts → ((l m : ℕ) → clause_in lost l m ≡ false) → AreLosses facts known clauses acts todo low high lost
-  no_losses low high lost le long none = record {
-    long = long;
-    only = λ l m t. absurd (apart (clause_in lost l m) t (none l m));
-    all = λ i ge lt within l m v b. absurd (omega (arith, le, ge, lt));
-  }
-
   -- one more action is tested
   pub one_more_action : (low i : ℕ) (old new : List (List ℕ)) → i < length todo → AreLosses facts known clauses acts todo low i old → length new ≡ length old
       → ((l m : ℕ) → clause_in new l m ≡ (clause_in old l m || (clause_in clauses l m && breaks_at i l m))) → AreLosses facts known clauses acts todo low (i + 1) new
