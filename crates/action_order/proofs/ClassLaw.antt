@@ -1,6 +1,6 @@
 use Rattle.std.proofs.Common.{arith, ◌≡◌, ℕ, zero, suc, ◌<◌, List, [], ◌∷◌, map, length, refl, sym, ap, ◌∙◌}
-use Rattle.action_order.specs.Graph.{IsClassed, class_at, item}
-use Rattle.action_order.specs.Walk.{mark_of, IsWalk, number_of}
+use Rattle.action_order.specs.own.Graph.{IsClassed, class_at, item}
+use Rattle.action_order.specs.own.Walk.{mark_of, IsWalk, number_of}
 use Rattle.action_order.specs.declared.walk.Mark.{Mark}
 use Rattle.action_order.specs.declared.walk.Mark.TheVariants.{Unseen, At, Done}
 

@@ -3,16 +3,16 @@ use Rattle.std.specs.List.{AllByRecursion}
 use Rattle.std.proofs.lemmas.Bool.{cases_eq}
 use Rattle.gt_core.specs.Literal.{is_in, range, range_from}
 use Rattle.gt_core.specs.Published.{Reaches, here, along, IsMutual, IsComponent, IsReady, IsNext, IsListed, Pairwise}
-use Rattle.gt_core.proofs.Basics.{Among, each_at, each_from, not_true, or_left, or_right, or_split, same_test, test_same, apart}
-use Rattle.gt_core.proofs.Literals.{in_among, among_in, in_split, in_left, in_right, among_range, below_range}
-use Rattle.gt_core.proofs.Pairwise.{pairwise_filter, filtered, into_filter}
-use Rattle.action_order.specs.Graph.{leads, item, class_at, IsGraph, IsClassed}
-use Rattle.action_order.specs.Quotient.{IsQuotient, AreNames}
-use Rattle.action_order.specs.Sorting.{IsTakenNext, AreTaken, IsTopologicalOrder}
+use Rattle.gt_core.proofs.published.Basics.{Among, each_at, each_from, not_true, or_left, or_right, or_split, same_test, test_same, apart}
+use Rattle.gt_core.proofs.published.Literals.{in_among, among_in, in_split, in_left, in_right, among_range, below_range}
+use Rattle.gt_core.proofs.published.Pairwise.{pairwise_filter, filtered, into_filter}
+use Rattle.action_order.specs.own.Graph.{leads, item, class_at, IsGraph, IsClassed}
+use Rattle.action_order.specs.own.Quotient.{IsQuotient, AreNames}
+use Rattle.action_order.specs.own.Sorting.{IsTakenNext, AreTaken, IsTopologicalOrder}
 use Rattle.std.specs.Prelude.{if◌then◌else◌}
 use Rattle.action_order.specs.Order.{name_in}
-use Rattle.action_order.specs.Group.{members, listed}
-use Rattle.action_order.proofs.Lists.{in_push, in_push_new, in_push_old}
+use Rattle.action_order.specs.own.Group.{members, listed}
+use Rattle.action_order.proofs.published.Lists.{in_push, in_push_new, in_push_old}
 
 -- The sorted components are the published order of the graph.
 

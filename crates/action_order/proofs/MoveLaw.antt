@@ -6,12 +6,12 @@ use Rattle.std.proofs.lemmas.List.{get_or_read}
 use Rattle.std.proofs.lemmas.List.Sums.{sum_by-set, sum_by-cons}
 use Rattle.bit_sets.specs.Rows.{row_has, IsLeastFrom}
 use Rattle.gt_core.specs.Literal.{is_in}
-use Rattle.gt_core.proofs.Basics.{and_split, and_both, not_true, same_test}
-use Rattle.action_order.specs.Graph.{leads, row_at, item}
-use Rattle.action_order.specs.Walk.{mark_of, is_unseen, IsWalk, AllReach, IsLast, ends_with}
+use Rattle.gt_core.proofs.published.Basics.{and_split, and_both, not_true, same_test}
+use Rattle.action_order.specs.own.Graph.{leads, row_at, item}
+use Rattle.action_order.specs.own.Walk.{mark_of, is_unseen, IsWalk, AllReach, IsLast, ends_with}
 use Rattle.action_order.specs.declared.walk.Mark.{Mark}
 use Rattle.action_order.specs.declared.walk.Mark.TheVariants.{Unseen, At}
-use Rattle.action_order.proofs.Lists.{reaches_more, reaches_edge, last_in, last_greatest}
+use Rattle.action_order.proofs.published.Lists.{reaches_more, reaches_edge, last_in, last_greatest}
 use Rattle.action_order.proofs.WalkLaw.{common_in}
 
 -- What one move of the walk may rely on, and that the work that is left falls.

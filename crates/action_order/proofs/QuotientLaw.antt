@@ -4,10 +4,10 @@ use Rattle.std.proofs.lemmas.List.{length-set, get_or-set_same, get_or-set_other
 use Rattle.std.proofs.lemmas.Bool.{cases_eq}
 use Rattle.std.proofs.lemmas.Bool.Decides.{nat_tests}
 use Rattle.bit_sets.specs.Rows.{row_has}
-use Rattle.gt_core.proofs.Basics.{and_split, and_both, not_split, not_false, not_true, or_split, or_left, or_right, same_test, test_same, apart}
-use Rattle.action_order.specs.Graph.{leads, row_at, IsGraph, class_at, IsClassed}
-use Rattle.action_order.specs.Quotient.{Crosses, AreUnited, IsWithoutOwn, IsQuotient, AreNames}
-use Rattle.action_order.specs.Sorting.{AreNamedComponents}
+use Rattle.gt_core.proofs.published.Basics.{and_split, and_both, not_split, not_false, not_true, or_split, or_left, or_right, same_test, test_same, apart}
+use Rattle.action_order.specs.own.Graph.{leads, row_at, IsGraph, class_at, IsClassed}
+use Rattle.action_order.specs.own.Quotient.{Crosses, AreUnited, IsWithoutOwn, IsQuotient, AreNames}
+use Rattle.action_order.specs.own.Sorting.{AreNamedComponents}
 
 -- The rows of the vertices go into those of their components, and the own vertices out of them.
 

@@ -4,14 +4,14 @@ use Rattle.std.proofs.lemmas.Bool.{cases_lt, cases_eq, cases_Bool}
 use Rattle.std.specs.List.{AllByRecursion}
 use Rattle.std.proofs.lemmas.List.Sums.{sum_by-set}
 use Rattle.gt_core.specs.Literal.{is_in, range}
-use Rattle.gt_core.proofs.Basics.{or_split, test_same, apart, not_true}
-use Rattle.gt_core.proofs.Literals.{among_in, among_range}
-use Rattle.action_order.specs.Graph.{leads, class_at, item}
-use Rattle.action_order.specs.Sorting.{list_at, is_taken, IsTakenNext, AreTaken, IsTopologicalOrder, IsReadyName, Waits, IsSorting, AreNamedComponents}
-use Rattle.action_order.specs.KeySet.{IsFirst, IsWith}
-use Rattle.action_order.proofs.Lists.{in_push, in_push_new, in_push_old}
+use Rattle.gt_core.proofs.published.Basics.{or_split, test_same, apart, not_true}
+use Rattle.gt_core.proofs.published.Literals.{among_in, among_range}
+use Rattle.action_order.specs.own.Graph.{leads, class_at, item}
+use Rattle.action_order.specs.own.Sorting.{list_at, is_taken, IsTakenNext, AreTaken, IsTopologicalOrder, IsReadyName, Waits, IsSorting, AreNamedComponents}
+use Rattle.action_order.specs.own.KeySet.{IsFirst, IsWith}
+use Rattle.action_order.proofs.published.Lists.{in_push, in_push_new, in_push_old}
 use Rattle.std.proofs.lemmas.List.{length-replicate}
-use Rattle.containers.proofs.Made.{get_or-replicate_default}
+use Rattle.containers.proofs.published.Made.{get_or-replicate_default}
 
 -- What each move of the sorting keeps.
 

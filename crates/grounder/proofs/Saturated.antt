@@ -7,8 +7,8 @@ use Rattle.std.proofs.lemmas.Bool.Decides.{nat_tests}
 use Rattle.std.proofs.Math.Nat.{mul-le-mul_left, mul-le-mul_right}
 use Rattle.pd_model.specs.Fits.{fitting}
 use Rattle.pd_model.specs.declared.parts.Parts.{Parts}
-use Rattle.grounding_laws.specs.Tuples.{product_of, saturated}
-use Rattle.grounder.specs.Bindings.{size}
+use Rattle.grounding_defs.specs.Tuples.{product_of, saturated}
+use Rattle.grounder.specs.own.Bindings.{size}
 
 -- the greatest number of 64 bits
 abbrev pub most : ℕ

@@ -2,15 +2,15 @@
 use Rattle.std.proofs.Common.{arith, ◌≡◌, ℕ, ◌+◌, ◌-◌, ◌<◌, ◌≤◌, Bool, true, false, true≢false, refl, sym, ap, ◌∙◌, subst, Option, if◌then◌else◌}
 use Rattle.clause_base.specs.Choice.{Known}
 use Rattle.clause_base.specs.Formula.{Cnf}
-use Rattle.cdcl_rules.specs.declared.standing.Standing.{Standing}
-use Rattle.cdcl_rules.specs.declared.standing.Standing.TheVariants.{Going, Found, Refuted}
-use Rattle.cdcl_rules.specs.Run.{start_of, after, is_going}
-use Rattle.cdcl_rules.specs.State.{State}
+use Rattle.cdcl_defs.specs.declared.standing.Standing.{Standing}
+use Rattle.cdcl_defs.specs.declared.standing.Standing.TheVariants.{Going, Found, Refuted}
+use Rattle.cdcl_defs.specs.Run.{start_of, after, is_going}
+use Rattle.cdcl_defs.specs.State.{State}
 use Rattle.goal_choice.specs.Means.{Means}
 use Rattle.goal_choice.specs.Choice.{choice_by}
 use Rattle.horizon_run.specs.Run.{RunView, choice_in, moved_to, reached, AddsUp, IsMoved, IsReached, Stays}
-use Rattle.horizon_run.specs.Resume.{origin}
-use Rattle.horizon_run.specs.Seen.{seen_of}
+use Rattle.horizon_run.specs.own.Resume.{origin}
+use Rattle.horizon_run.specs.own.Seen.{seen_of}
 
 going-of : (s : Standing) → is_going s ≡ true → s ≡ Going
 going-of Going e = refl

@@ -4,7 +4,7 @@ use Rattle.pd_model.specs.declared.atoms.Term.TheVariants.{Object, Variable}
 use Rattle.pd_model.specs.declared.calls.Verdict.TheVariants.{Reaches}
 use Rattle.pd_model.specs.declared.parts.Parts.{Parts}
 use Rattle.pd_model.specs.Plan.{verdict}
-use Rattle.pd_model.proofs.Tasks.{has, lacks, add, delete, schema, call, arity, type_under, object_of_type}
+use Rattle.pd_model.proofs.published.Tasks.{has, lacks, add, delete, schema, call, arity, type_under, object_of_type}
 
 -- one action that adds and deletes the same atom
 abbrev both : Parts

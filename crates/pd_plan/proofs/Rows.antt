@@ -3,7 +3,7 @@ use Rattle.std.proofs.Common.{◌≡◌, ℕ, List, [], ◌∷◌, map, Ok, refl
 use Rattle.std.specs.Prelude.{codes}
 use Rattle.pd_model.specs.declared.calls.Call.{Call}
 use Rattle.pd_plan.specs.PlanFile.{plan_file}
-use Rattle.pd_plan.specs.Depot.{depot}
+use Rattle.pd_plan.specs.own.Depot.{depot}
 
 abbrev call : ℕ → List ℕ → Call
 call schema objects = record { schema = schema; objects = objects }

@@ -5,16 +5,16 @@ use Rattle.std.proofs.lemmas.Bool.{eqb-true, eq-eqb}
 use Rattle.std.proofs.lemmas.List.{drop_more}
 use Rattle.pd_sexp.specs.Bytes.{open_paren, close_paren, semicolon, line_feed, is_blank, is_letter, lowered}
 use Rattle.pd_sexp.specs.Fault.{uncommented, comment_blanked}
-use Rattle.pd_sexp.proofs.Bytes.{letter-blank, letter-semicolon}
+use Rattle.pd_sexp.proofs.published.Bytes.{letter-blank, letter-semicolon}
 use Rattle.pd_words.specs.Typed.{named}
 use Rattle.pd_words.specs.declared.named.Named.{Named}
 use Rattle.pd_plan.specs.declared.lists.WordList.{WordList}
 use Rattle.pd_plan.specs.Fault.{Fault, syntax}
 use Rattle.pd_words.specs.First.{◌>>=◌, after, FailsWith}
-use Rattle.pd_plan.specs.Tokens.{Token, opening, closing, word, wrong, sign, joined, tokens}
-use Rattle.pd_plan.specs.WordLists.{word_list, lists, list_on, word_lists}
-use Rattle.pd_plan.specs.Progress as at
-use Rattle.pd_plan.specs.Progress.{State, Place, between, inside, closed, step, from_place, answer}
+use Rattle.pd_plan.specs.own.Tokens.{Token, opening, closing, word, wrong, sign, joined, tokens}
+use Rattle.pd_plan.specs.own.WordLists.{word_list, lists, list_on, word_lists}
+use Rattle.pd_plan.specs.own.Progress as at
+use Rattle.pd_plan.specs.own.Progress.{State, Place, between, inside, closed, step, from_place, answer}
 
 -- ---- tests
 

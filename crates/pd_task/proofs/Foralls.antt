@@ -15,8 +15,8 @@ use Rattle.pd_words.specs.Typed.{Variables, variable_list}
 use Rattle.pd_words.specs.First.{◌>>=◌, Fails, Gives, Leaves}
 use Rattle.pd_words.specs.Items.{no_more}
 use Rattle.pd_words.specs.Standing.{Standing}
-use Rattle.pd_task.specs.Scope.{site_of, opened}
-use Rattle.pd_task.specs.Effects.{Site, effect, quantified, quantified_body}
+use Rattle.pd_task.specs.own.Scope.{site_of, opened}
+use Rattle.pd_task.specs.own.Effects.{Site, effect, quantified, quantified_body}
 use Rattle.pd_task.specs.declared.vocabulary.Vocabulary.{Vocabulary}
 use Rattle.pd_task.proofs.Ands.{handed_on}
 

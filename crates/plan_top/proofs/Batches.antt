@@ -12,14 +12,14 @@ use Rattle.plan_endings.specs.declared.ending.File.{File}
 use Rattle.plan_endings.specs.declared.ending.File.TheVariants.{Domain, Problem}
 use Rattle.input_files.specs.Limits.{most_of, most_bytes, file_at}
 use Rattle.input_files.specs.Files.{FaultsFrom, IsWhole, IsFront, IsWholeOrFront, AreTakenOrLong}
-use Rattle.plan_answers.specs.Tasks.{grounded}
-use Rattle.plan_top.specs.Causes.{HasRead, stopped, IsPartOf, ArePartsOf, Comes, unread, in_parts, is_answer}
-use Rattle.plan_top.specs.Parts.{IsBatch, IsShort, AnswersPart, AnswersBatch, IsRunOf, IsPart, IsSound, ArePrepared, AnswersRun, open_in, woven}
+use Rattle.commands.specs.Tasks.{grounded}
+use Rattle.plan_top.specs.own.Causes.{HasRead, stopped, IsPartOf, ArePartsOf, Comes, unread, in_parts, is_answer}
+use Rattle.plan_top.specs.own.Parts.{IsBatch, IsShort, AnswersPart, AnswersBatch, IsRunOf, IsPart, IsSound, ArePrepared, AnswersRun, open_in, woven}
 use Rattle.plan_top.specs.declared.parts.Part.{Part}
 use Rattle.plan_top.specs.declared.parts.Part.TheVariants as parts
 use Rattle.plan_top.specs.declared.parts.Run.{Run}
 use Rattle.plan_top.proofs.Complete.{batch_most}
-use Rattle.input_files.proofs.Taking.{kept_count}
+use Rattle.input_files.proofs.published.Taking.{kept_count}
 use Rattle.plan_top.proofs.Told.{decides_answer, taken_comes}
 
 -- ---- files

@@ -5,7 +5,7 @@ use Rattle.std.proofs.lemmas.Bool.Decides.{nat_tests}
 use Rattle.std.proofs.lemmas.List.{get_or-map, length-map}
 use Rattle.clause_base.specs.Clause.{has_literal}
 use Rattle.clause_base.specs.View.{shifted}
-use Rattle.clause_base.proofs.ViewLemmas.{up_high, up_low}
+use Rattle.clause_base.proofs.published.ViewLemmas.{up_high, up_low}
 use Rattle.propagation.specs.Pending.{AreFalseFrom, IsSought, is_free}
 
 pub as_long : (xs lits : List ℕ) (f : ℕ → ℕ) → xs ≡ map f lits → length lits ≡ length xs

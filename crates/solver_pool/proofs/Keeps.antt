@@ -12,9 +12,9 @@ use Rattle.crossbeam_queue.proofs.Lists.{at_set, at_snoc, at_longer, at_last}
 use Rattle.solver_pool.specs.declared.resume.Resume.{Ghosts}
 use Rattle.solver_pool.specs.Resume.{IsMoved}
 use Rattle.solver_pool.specs.Job.{JobView, Differ, key_at, IsNew, note_of, entry_of, Fits}
-use Rattle.solver_pool.specs.PassView.{owner_view, worker_view, ended_view, with_put, with_take, with_entry, with_pass_out, with_pass_in, count_of, live_count, MayPut}
-use Rattle.solver_pool.specs.Rule.{IsWorkerView, IsLawful, RuleHolds}
-use Rattle.solver_pool.specs.Steps.{TookAll, TookPuts, Settles, Takes, Opens}
+use Rattle.solver_pool.specs.own.PassView.{owner_view, worker_view, ended_view, with_put, with_take, with_entry, with_pass_out, with_pass_in, count_of, live_count, MayPut}
+use Rattle.solver_pool.specs.own.Rule.{IsWorkerView, IsLawful, RuleHolds}
+use Rattle.solver_pool.specs.own.Steps.{TookAll, TookPuts, Settles, Takes, Opens}
 use Rattle.solver_pool.specs.declared.pass_view.PassView.{PassView}
 use Rattle.solver_pool.specs.declared.pass_view.Note.{Note}
 use Rattle.solver_pool.specs.declared.pass_view.BookEntry.{BookEntry}
