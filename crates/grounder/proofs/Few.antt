@@ -16,7 +16,7 @@ use Rattle.grounding_defs.specs.Reach.{IsKept}
 use Rattle.grounding_defs.specs.Tuples.{product_of, effect_tuples, schema_tuples, tuples_in, saturated}
 use Rattle.grounding_defs.proofs.published.Kept.{kept_is_call}
 use Rattle.grounding_defs.proofs.published.Members.{among_call}
-use Rattle.atom_join.proofs.published.Atoms.{fits_listed}
+use Rattle.schema_domains.proofs.published.Listed.{fits_listed}
 use Rattle.grounder.specs.own.Bindings.{size}
 use Rattle.grounder.specs.own.Few.{HasFewTuples, HasFewOf, HasFew, HaveFew}
 use Rattle.grounder.proofs.Saturated.{saturated_is}

@@ -24,10 +24,10 @@ mod no_driver;
 mod poll_run;
 mod settling;
 
-pub use crate::PollRun;
 pub use block_driver::BlockOn;
 pub use bounded::Bounded;
 pub use driver::{DriveFailed, Driver};
 pub use in_turns::{TurnsError, drive_in_turns};
 pub use no_driver::NoDriver;
+pub use poll_run::PollRun;
 pub use settling::{SettleError, settle};
