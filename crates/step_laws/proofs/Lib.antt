@@ -3,16 +3,15 @@ pub mod StepLaw
 pub mod StepClauses
 pub mod OrderLaw
 pub mod PlanLaw
-pub mod SetAt
 pub mod Assignment
 pub mod FormulaLaw
-pub mod Ranges
 pub mod FormLaw
-pub mod SequenceLaw
-pub mod MembersLaw
-pub mod ExistsSteps
 pub mod AllBackward
 pub mod AllWays
 pub mod AllReading
+<<<<<<< HEAD
 pub mod AllWriting
 pub mod NeverLaw
+=======
+pub mod published
+>>>>>>> 9dc72d8aa4096b0ec7e4e908ee2e75b21788b821
