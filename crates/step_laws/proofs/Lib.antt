@@ -9,9 +9,5 @@ pub mod FormLaw
 pub mod AllBackward
 pub mod AllWays
 pub mod AllReading
-<<<<<<< HEAD
-pub mod AllWriting
 pub mod NeverLaw
-=======
 pub mod published
->>>>>>> 9dc72d8aa4096b0ec7e4e908ee2e75b21788b821

@@ -1,10 +1,6 @@
 use Rattle.step_laws.proofs.FormLaw.{plans, satisfied, refutes}
-<<<<<<< HEAD
-use Rattle.step_laws.proofs.SequenceLaw.{one_by_one, sequence_is_plan}
-use Rattle.step_laws.proofs.NeverLaw.{never_is_no_plan}
-=======
 use Rattle.step_laws.proofs.published.SequenceLaw.{one_by_one, sequence_is_plan}
->>>>>>> 9dc72d8aa4096b0ec7e4e908ee2e75b21788b821
+use Rattle.step_laws.proofs.NeverLaw.{never_is_no_plan}
 use Rattle.step_laws.proofs.laws.laws.Goals as goal
 
 pub returns-clause-satisfying_is_plan : goal.returns-clause-satisfying_is_plan
