@@ -1,5 +1,5 @@
 use Rattle.std.specs.Prelude.{◌≡◌, ℕ, ◌*◌, ◌/◌, ◌%◌, ◌^◌, ◌<◌, ◌≤◌, ◌==◌, ◌&&◌, ◌||◌, List, length, slice_index, slice_set, Bool, true, false, not, Option, Some, None, bit_or}
-pub use Rattle.bit_sets.specs.Words.{word_has, IsLeast}
+pub use Rattle.bit_sets.specs.own.Words.{word_has, IsLeast}
 
 -- whether a list of words has a bit
 abbrev pub words_have : List ℕ → ℕ → Bool

@@ -15,4 +15,4 @@ mod reduce;
 mod search;
 pub mod solver;
 
-pub use cdcl_rules::standing::Standing;
+pub use cdcl_defs::standing::Standing;

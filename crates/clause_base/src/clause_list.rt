@@ -4,7 +4,7 @@ ghost use Rattle.clause_base.specs.Clause.{IsClause, clause_of};
 
 use crate::clause::{Clause, has_opposite_neighbours, sort_into};
 use crate::literal::Lit;
-use crate::memory::Memory;
+use containers::memory::Memory;
 use containers::{FlatLists, let_go};
 use std::alloc::Global;
 use std::marker::Model;

@@ -12,7 +12,6 @@ pub mod clause_list;
 pub mod formula;
 pub mod literal;
 pub mod log;
-pub mod memory;
 pub mod pair;
 mod pair_build;
 pub mod pair_table;

@@ -3,11 +3,11 @@ ghost use Rattle.clause_base.specs.Clause.{IsClause, HasVariablesBelow};
 ghost use Rattle.clause_base.specs.Repeats.{IsRepeatable, all_steps, all_times, facts_at, repeated, variables_of};
 
 use crate::clause_list::ClauseList;
-use crate::memory::Memory;
 use crate::shared_list::SharedList;
 use crate::sizes::{Sizes, sizes_of};
 use crate::view::View;
 use containers::let_go;
+use containers::memory::Memory;
 use std::alloc::Global;
 use std::marker::Model;
 
@@ -25,7 +25,7 @@ pub struct Repeated {
 
 impl Model for Repeated {
     ghost use Rattle.clause_base.specs.Repeats.{Repeats};
-    ghost use Rattle.clause_base.specs.Sizes.{IsSized};
+    ghost use Rattle.clause_base.specs.own.Sizes.{IsSized};
 
     ghost Value = { Repeats };
 

@@ -6,8 +6,8 @@ ghost use Rattle.clause_base.specs.Pairs.{pairs_of, pairs_from};
 
 use crate::clause_list::ClauseList;
 use crate::literal::Lit;
-use crate::memory::Memory;
 use crate::pair_table::PairTable;
+use containers::memory::Memory;
 use std::alloc::Global;
 use std::marker::Model;
 use std::sync::Arc;
@@ -30,7 +30,7 @@ pub struct SharedList {
 
 impl Model for SharedList {
     ghost use Rattle.std.specs.Prelude.{List, ℕ};
-    ghost use Rattle.clause_base.specs.Shared.{clauses_held, HasTable};
+    ghost use Rattle.clause_base.specs.own.Shared.{clauses_held, HasTable};
 
     ghost Value = { List (List ℕ) };
 

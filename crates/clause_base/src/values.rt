@@ -3,8 +3,8 @@ ghost use Rattle.clause_base.specs.Choice.{least_open};
 ghost use Rattle.clause_base.specs.ValueTruths.{AreGivenBelow, says, value_at};
 
 use crate::literal::Lit;
-use crate::memory::Memory;
 use containers::let_go;
+use containers::memory::Memory;
 use std::alloc::Global;
 use std::marker::Model;
 

@@ -3,7 +3,7 @@ ghost use Rattle.clause_base.specs.Clause.{IsRising};
 ghost use Rattle.clause_base.specs.View.{shifted, IsMoved, StaysCode};
 
 use crate::literal::Lit;
-use crate::memory::Memory;
+use containers::memory::Memory;
 use std::marker::Model;
 
 /// The literals of a clause as they stand, and how each is moved as it is read.

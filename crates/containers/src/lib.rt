@@ -2,9 +2,10 @@
 //! lists in two blocks of memory; and lists in memory that their copies share.
 //!
 //! `let_go!` takes a struct apart and lets each part go: what each `drop` that a crate writes by hand does. `equal` has vectors
-//! of items that are made alike.
+//! of items that are made alike. `codes` has literals as codes, and `memory` the want of memory that all crates answer.
 #![tactic(auto)]
 
+pub mod codes;
 pub mod equal;
 mod flat_lists;
 pub mod memory;

@@ -2,7 +2,7 @@
 
 ghost use Rattle.std.specs.Prelude.{◌≡◌, length, IfOk};
 ghost use Rattle.gt_core.specs.Lawful.{conditional_in};
-ghost use Rattle.horizon_formula.specs.Layout.{variables};
+ghost use Rattle.formula_defs.specs.Layout.{variables};
 ghost use Rattle.goal_choice.specs.Means.{means_of, gathered_of};
 ghost use Rattle.goal_choice.specs.Choice.{choice_by, or_plain};
 ghost use Rattle.goal_choice.specs.ChoiceLaw.{choice-open};
@@ -13,10 +13,10 @@ use crate::supporters::Supporters;
 use crate::told_walk::ToldWalk;
 use clause_base::chooser::{Chooser, PlainChooser};
 use clause_base::literal::Lit;
-use clause_base::memory::Memory;
 use clause_base::values::Values;
+use containers::memory::Memory;
+use formula_defs::layout::Layout;
 use gt_core::task::Task;
-use horizon_formula::layout::Layout;
 use std::alloc::Global;
 use std::marker::Model;
 

@@ -27,7 +27,7 @@ impl Drop for Needs {
 impl Model for Needs {
     ghost use Rattle.std.specs.Prelude.{◌≡◌, ◌<◌, ℕ, List, length};
     ghost use Rattle.std.specs.List.{AllByRecursion};
-    ghost use Rattle.goal_choice.specs.Joined.{all_needs};
+    ghost use Rattle.goal_choice.specs.own.Joined.{all_needs};
 
     ghost Value = { List (List ℕ) };
 

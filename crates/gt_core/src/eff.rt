@@ -28,7 +28,7 @@ pub struct Eff {
 
 impl Model for Eff {
     ghost use Rattle.gt_core.specs.Task.{Effect};
-    ghost use Rattle.gt_core.specs.Kinds.{effect_held};
+    ghost use Rattle.gt_core.specs.own.Kinds.{effect_held};
 
     ghost Value = { Effect };
 

@@ -9,6 +9,5 @@ pub mod eff;
 mod lawful;
 pub mod laws;
 pub mod lits;
-pub mod memory;
 pub mod pairs;
 pub mod task;

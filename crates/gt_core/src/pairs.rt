@@ -1,9 +1,9 @@
 //! Clauses of one or two fact literals that are known of the states of a task.
 
 use crate::clause_list::{in_order, make_room, mark, put_in};
-use crate::memory::Memory;
 use bit_sets::row::{BitRow, empty_rows};
 use containers::let_go;
+use containers::memory::Memory;
 use std::alloc::Global;
 use std::marker::Model;
 

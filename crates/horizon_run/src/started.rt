@@ -1,13 +1,13 @@
 //! A run that was started. It is made in the first turn that advances it.
 
 ghost use Rattle.std.specs.Prelude.{◌≡◌, ℕ, ◌+◌, ◌≤◌, true, false, IfOk, OnOk, OnErr};
-ghost use Rattle.cdcl_rules.specs.Run.{after};
+ghost use Rattle.cdcl_defs.specs.Run.{after};
 ghost use Rattle.horizon_run.specs.Run.{choice_in, moved_to, AddsUp, IsMoved, IsReached, Stays};
 
 use crate::held::{Held, take};
 use crate::{AheadRun, HorizonRun, Unmade};
-use clause_base::memory::Memory;
 use containers::let_go;
+use containers::memory::Memory;
 use std::alloc::Global;
 use std::marker::Model;
 
@@ -23,7 +23,7 @@ pub struct Started {
 impl Model for Started {
     ghost use Rattle.std.specs.Prelude.{◌≡◌};
     ghost use Rattle.horizon_run.specs.Run.{RunView};
-    ghost use Rattle.horizon_run.specs.Held.{run_in, HasLaws};
+    ghost use Rattle.horizon_run.specs.own.Held.{run_in, HasLaws};
 
     ghost Value = { RunView };
 

@@ -1,5 +1,4 @@
 pub mod Judged
-pub mod Follow
 pub mod Verdicts
 pub mod Reached
-pub mod Ids
+pub mod own

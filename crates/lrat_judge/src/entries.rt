@@ -6,13 +6,13 @@ ghost use Rattle.clause_base.specs.declared.log.Entry.TheVariants.{Learn as lear
 ghost use Rattle.sat_text.specs.LratLine.{LineView, IsHeld};
 ghost use Rattle.rup_check.specs.Taken.{HasTaken};
 ghost use Rattle.lrat_judge.specs.Judged.{HasCounted, counted};
-ghost use Rattle.lrat_judge.specs.Follow.{Known, number_named, numbers_named, with_entry, with_clause, without};
+ghost use Rattle.lrat_judge.specs.own.Follow.{Known, number_named, numbers_named, with_entry, with_clause, without};
 ghost use Rattle.lrat_judge.specs.Reached.{StandsAt, Stands, Enters};
 
 use crate::ids::IdTable;
 use clause_base::clause::Clause;
 use clause_base::literal::Lit;
-use clause_base::memory::Memory;
+use containers::memory::Memory;
 use rup_check::checker::Checker;
 use sat_text::lrat_line::Line;
 use std::alloc::Global;

@@ -3,14 +3,14 @@ ghost use Rattle.std.specs.Prelude.{◌≡◌, ◌≢◌, ◌<◌, ◌+◌, ◌+
 ghost use Rattle.clause_base.specs.Formula.{IsUnsatisfiable};
 ghost use Rattle.lrat_judge.specs.Judged.{IsRefutedBy};
 ghost use Rattle.sat_text.specs.LratLine.{line_of};
-ghost use Rattle.lrat_judge.specs.Follow.{Known};
+ghost use Rattle.lrat_judge.specs.own.Follow.{Known};
 ghost use Rattle.lrat_judge.specs.Verdicts.{outcome_line, verdict_of};
 ghost use Rattle.lrat_judge.specs.Reached.{IsBefore, Comes, HasRead, has_no_end};
 
 use crate::lines::Lines;
 use crate::verdict::Verdict;
 use clause_base::formula::Formula;
-use clause_base::memory::Memory;
+use containers::memory::Memory;
 use sat_text::lines::first_line;
 use std::alloc::Global;
 use std::marker::Model;

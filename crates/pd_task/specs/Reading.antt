@@ -3,8 +3,8 @@
 -- objects, initial state and goal.
 use Rattle.std.specs.Prelude.{ℕ, List, [], Option, Some, None, Result, Ok, Err, codes}
 use Rattle.pd_sexp.specs.Tree.{Tree, Trees, no_trees, and_tree}
-use Rattle.pd_model.specs.declared.memory.Which.{Which}
-use Rattle.pd_model.specs.declared.memory.Which.TheVariants.{Domain, Problem}
+use Rattle.pd_model.specs.declared.which.Which.{Which}
+use Rattle.pd_model.specs.declared.which.Which.TheVariants.{Domain, Problem}
 use Rattle.pd_model.specs.declared.types.TypeDecl.{TypeDecl}
 use Rattle.pd_model.specs.declared.objects.ObjectDecl.{ObjectDecl}
 use Rattle.pd_model.specs.declared.predicates.Predicate.{Predicate}
@@ -19,10 +19,10 @@ use Rattle.pd_words.specs.First.{◌>>=◌, each}
 use Rattle.pd_words.specs.Items.{no_more}
 use Rattle.pd_task.specs.declared.error.PddlError.{PddlError}
 use Rattle.pd_task.specs.declared.error.PddlError.TheVariants as errors
-use Rattle.pd_task.specs.Atoms.{Names, condition}
-use Rattle.pd_task.specs.Action.{and_action}
+use Rattle.pd_task.specs.own.Atoms.{Names, condition}
+use Rattle.pd_task.specs.own.Action.{and_action}
 use Rattle.pd_words.specs.Frames.{domain_frame, problem_frame, section_with, find_section, items_under}
-use Rattle.pd_task.specs.Declarations.{and_objects, and_predicate, and_init}
+use Rattle.pd_task.specs.own.Declarations.{and_objects, and_predicate, and_init}
 
 -- what a domain declares
 pub record DomainParts : Type 0 where

@@ -8,7 +8,7 @@ ghost use Rattle.std.specs.Prelude.{◌≡◌, Ok, IfOk, IfErr, IsTrue};
 ghost use Rattle.pd_sexp.specs.View.{view};
 ghost use Rattle.pd_sexp.specs.Word.{has_words};
 ghost use Rattle.pd_task.specs.Reading as readings;
-ghost use Rattle.pd_task.specs.Told.{IsTold, told_error};
+ghost use Rattle.pd_task.specs.own.Told.{IsTold, told_error};
 
 mod action;
 mod actions;

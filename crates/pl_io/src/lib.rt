@@ -3,27 +3,31 @@
 //! Code that reads or writes is generic over [`Shelf`] and [`Sink`], so that one contract speaks of the program and of a
 //! run in memory. [`MemShelf`] and [`MemSink`] tell what they hold; [`FileShelf`] and [`OutSink`] stand before the
 //! system's files and the standard output: the one tells no content, the other what the system counted as taken. Of every shelf and
-//! of every tape it is written down, for clauses alone and without memory, what it handed over. [`put_all`] is a whole caller of a sink.
+//! of every tape it is written down, for clauses alone and without memory, what it handed over ([`Heard`], [`Sent`]). [`put_all`] is a whole caller of a sink.
 #![tactic(auto)]
 
 mod faults;
 mod file_shelf;
 mod file_tape;
+mod heard;
 mod lists;
 mod mem_shelf;
 mod mem_sink;
 mod mem_tape;
 mod out_sink;
 mod outside;
+mod sent;
 mod tape;
 
 pub use containers::memory::Memory;
 pub use file_shelf::FileShelf;
 pub use file_tape::FileTape;
+pub use heard::Heard;
 pub use lists::{Bytes, Files, NamedFile, Names, Numbers};
 pub use mem_shelf::MemShelf;
 pub use mem_sink::MemSink;
 pub use mem_tape::MemTape;
 pub use out_sink::OutSink;
 pub use outside::{PutFailed, Shelf, Sink, TakeError, Taken, put_all};
+pub use sent::Sent;
 pub use tape::Tape;

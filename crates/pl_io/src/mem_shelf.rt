@@ -1,15 +1,14 @@
 // A shelf in memory, for runs without a file system: it tells all its files, and fails where it was told to.
 ghost use Rattle.std.specs.Prelude.{◌≡◌, ◌≢◌, ◌↔◌, ◌≤◌, ◌+◌, ◌++◌, ℕ, true, false, List, [], ◌∷◌, length, option_map, IsTrue, IsSome, IsErr, OnErr, OnOk, IfSome, Contains};
 ghost use Rattle.pl_io.specs.Outside.{Notes, Took, TookWhole, TookFirst, Hears, fault_count, FaultRose};
-ghost use Rattle.pl_io.specs.Calls.{next_call, NextFails};
-ghost use Rattle.pl_io.specs.MemShelf.{bytes_at, has_none};
+ghost use Rattle.pl_io.specs.own.Calls.{next_call, NextFails};
+ghost use Rattle.pl_io.specs.own.MemShelf.{bytes_at, has_none};
 
 use crate::faults::note;
-use crate::{Bytes, Files, NamedFile, Names, Numbers, Shelf, TakeError, Taken};
+use crate::{Bytes, Files, Heard, NamedFile, Names, Numbers, Shelf, TakeError, Taken};
 use containers::let_go;
 use std::alloc::Global;
 use std::marker::Model;
-use transcript::Heard;
 
 /// Files in memory, by name. The calls of `take` whose numbers, counted from 1, are listed as failing fail.
 pub struct MemShelf {
@@ -22,7 +21,7 @@ pub struct MemShelf {
 }
 
 impl Model for MemShelf {
-    ghost use Rattle.pl_io.specs.MemShelf.{ShelfInMemory};
+    ghost use Rattle.pl_io.specs.own.MemShelf.{ShelfInMemory};
 
     ghost Value = { ShelfInMemory };
 

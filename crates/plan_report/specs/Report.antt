@@ -4,9 +4,9 @@ use Rattle.report_lines.specs.Lines.{joined}
 use Rattle.report_lines.specs.Horizons.{Entry, report}
 use Rattle.pd_model.specs.declared.parts.Parts.{Parts}
 use Rattle.pd_model.specs.Text.{call_text}
-use Rattle.grounding_laws.specs.Grounded.{Grounded}
+use Rattle.grounding_defs.specs.Grounded.{Grounded}
 use Rattle.plan_report.specs.Listings.{call_at}
-use Rattle.race_end.specs.Ends.{Word, WordRefuted, WordDropped, WordOpen, WordPlan, LineView, EndView, Planned, Exhausted, Unfinished, lines_in, conflicts_in}
+use Rattle.race_outcome.specs.Ends.{Word, WordRefuted, WordDropped, WordOpen, WordPlan, LineView, EndView, Planned, Exhausted, Unfinished, lines_in, conflicts_in}
 use Rattle.step_plans.specs.Plans.{actions_in}
 
 -- ---- horizons

@@ -1,7 +1,7 @@
 -- What the crates below promise of tasks and step plans, gathered.
 use Rattle.gt_core.specs.Laws.{PublishedIsUnique, NeverItself}
 use Rattle.two_invariants.specs.Laws.{OneListOfInvariants}
-use Rattle.grounding_laws.specs.Laws.{OneResult}
+use Rattle.grounding_defs.specs.Laws.{OneResult}
 use Rattle.step_plans.specs.Laws.{ShortPlansAreStepPlans, OtherPlansAreLonger, SetsAreLists}
 
 pub record TaskLaws : Type 0 where

@@ -1,6 +1,6 @@
 -- What the crates below promise of plans and their texts, gathered.
 use Rattle.two_invariants.specs.Laws.{InvariantsHold}
-use Rattle.grounding_laws.specs.Laws.{GroundedIsTask}
+use Rattle.grounding_defs.specs.Laws.{GroundedIsTask}
 use Rattle.plan_tasks.specs.Laws.{TaskLaws}
 use Rattle.step_plans.specs.Laws.{StepPlansRun, ListedHaveActionsOnce, ListedAreInOrder, SetsAtPlacesAreListed}
 use Rattle.plan_report.specs.Laws.{PlanTextsAreRead, PlanTextsAreReadBack}

@@ -1,4 +1,1 @@
-pub mod Causes
-pub mod Parts
-pub mod Complete
-pub mod OneReport
+pub mod own

@@ -1,7 +1,7 @@
 //! Which clauses may be pending, and what each of them asks for.
 ghost use Rattle.std.specs.Prelude.{◌≡◌, ℕ, ◌*◌, ◌<◌, ◌≤◌, length, true, false, slice_index, IfOk, OnOk};
 ghost use Rattle.bit_sets.specs.Layered.{words_have};
-ghost use Rattle.propagation.specs.Asks.{IsLeastAsking, IsPut, IsWider, IsWithin, IsWithout};
+ghost use Rattle.propagation.specs.own.Asks.{IsLeastAsking, IsPut, IsWider, IsWithin, IsWithout};
 
 use crate::room::fit_asks;
 use bit_sets::first::First;

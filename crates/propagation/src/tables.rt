@@ -6,7 +6,7 @@ use crate::given::Given;
 use crate::spare::Spare;
 use crate::steps::Steps;
 use crate::visit::Lists;
-use clause_store::store::Store;
+use cdcl_tables::store::Store;
 use containers::let_go;
 
 /// The clauses by number, which of them are kept, and the number and the step of each slot's clause.

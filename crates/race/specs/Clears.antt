@@ -1,9 +1,9 @@
 -- The live horizons up to the last refuted one are live no more; those of them that are not refuted are dropped.
 use Rattle.std.specs.Prelude.{List, [], ◌∷◌, ◌++◌, Bool, true, false, if◌then◌else◌}
 use Rattle.std.specs.List.{list_any}
-use Rattle.cdcl_rules.specs.declared.standing.Standing.{Standing}
-use Rattle.cdcl_rules.specs.declared.standing.Standing.TheVariants.{Going, Found, Refuted}
-use Rattle.race_end.specs.Ends.{Word, WordRefuted, WordDropped, LineView}
+use Rattle.cdcl_defs.specs.declared.standing.Standing.{Standing}
+use Rattle.cdcl_defs.specs.declared.standing.Standing.TheVariants.{Going, Found, Refuted}
+use Rattle.race_outcome.specs.Ends.{Word, WordRefuted, WordDropped, LineView}
 use Rattle.race.specs.State.{LiveRun, RaceState}
 
 abbrev pub is_refuted : Standing → Bool

@@ -1,8 +1,8 @@
 -- The least found horizon, and the lines of a race.
 use Rattle.std.specs.Prelude.{List, [], ◌∷◌, ◌++◌, map, Bool, true, false, Option, Some, None, if◌then◌else◌}
-use Rattle.cdcl_rules.specs.declared.standing.Standing.{Standing}
-use Rattle.cdcl_rules.specs.declared.standing.Standing.TheVariants.{Going, Found, Refuted}
-use Rattle.race_end.specs.Ends.{Word, WordRefuted, WordOpen, WordPlan, LineView}
+use Rattle.cdcl_defs.specs.declared.standing.Standing.{Standing}
+use Rattle.cdcl_defs.specs.declared.standing.Standing.TheVariants.{Going, Found, Refuted}
+use Rattle.race_outcome.specs.Ends.{Word, WordRefuted, WordOpen, WordPlan, LineView}
 use Rattle.race.specs.State.{LiveRun, RaceState}
 
 abbrev pub is_found : Standing → Bool

@@ -2,7 +2,7 @@
 use Rattle.std.specs.Prelude.{ℕ, zero, suc, ◌+◌, ◌-◌, ◌==◌, [], ◌∷◌, Bool, false, not, Some, None, is_some, if◌then◌else◌}
 use Rattle.horizon_rates.specs.Horizons.{listed, horizon_at}
 use Rattle.horizon_run.specs.Run.{truths_of}
-use Rattle.race_end.specs.Ends.{EndView, Planned, Exhausted, Unfinished}
+use Rattle.race_outcome.specs.Ends.{EndView, Planned, Exhausted, Unfinished}
 use Rattle.race.specs.Input.{RaceInput}
 use Rattle.race.specs.State.{RaceState, start, spent}
 use Rattle.race.specs.Starts.{filled, too_large}

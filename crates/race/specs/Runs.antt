@@ -2,7 +2,7 @@
 use Rattle.std.specs.Prelude.{◌≡◌, ℕ, false, ◌+◌, ◌-◌, ◌≤◌, List, [], ◌∷◌, length, map}
 use Rattle.std.specs.List.{AllByRecursion}
 use Rattle.std.specs.List.Sorted.{IsStrictlyIncreasing}
-use Rattle.cdcl_rules.specs.declared.standing.Standing.TheVariants.{Found, Refuted}
+use Rattle.cdcl_defs.specs.declared.standing.Standing.TheVariants.{Found, Refuted}
 use Rattle.solver_pool.specs.Job.{JobView}
 use Rattle.step_encoding.specs.Limits.{planner_literals}
 use Rattle.step_encoding.specs.Numbers.{literals_of}

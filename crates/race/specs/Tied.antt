@@ -1,8 +1,8 @@
 -- How the race in code shows the race of the definition.
 use Rattle.std.specs.Prelude.{◌≡◌, ℕ, ◌≤◌, ◌<◌, map}
 use Rattle.std.specs.List.{AllByRecursion}
-use Rattle.race_end.specs.declared.end.RaceEnd.{RaceEnd}
-use Rattle.race_end.specs.Ends.{line_view, end_view, lines_of}
+use Rattle.race_outcome.specs.declared.end.RaceEnd.{RaceEnd}
+use Rattle.race_outcome.specs.Ends.{line_view, end_view, lines_of}
 use Rattle.race.specs.declared.racing.Racing.{Racing}
 use Rattle.race.specs.declared.racing.Step.{Step}
 use Rattle.race.specs.declared.racing.Step.TheVariants.{On as OnStep, End as EndStep}

@@ -1,10 +1,9 @@
 pub mod Among
-pub mod Command
 pub mod OneTask
-pub mod Ranges
 pub mod Requested
 pub mod Seen
 pub mod Arguments
 pub mod Fit
 pub mod Passed
 pub mod Same
+pub mod own

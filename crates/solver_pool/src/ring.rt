@@ -26,8 +26,8 @@ pub struct Pass<R: Resume> {
 impl<R: Resume> Ring<R> {
     ghost use Rattle.std.specs.Prelude.{◌≡◌, IfOk, OnErr, MatchOption};
     ghost use Rattle.crossbeam_queue.specs.Passes.{view};
-    ghost use Rattle.solver_pool.specs.PassView.{worker_view, with_pass_out, with_pass_in};
-    ghost use Rattle.solver_pool.specs.Steps.{Takes, TookAll};
+    ghost use Rattle.solver_pool.specs.own.PassView.{worker_view, with_pass_out, with_pass_in};
+    ghost use Rattle.solver_pool.specs.own.Steps.{Takes, TookAll};
     ghost use Rattle.solver_pool.specs.Ring.{IsOwnerPass, IsWorkerPass};
 
     /// Gives out a pass for a worker. It has the owner's book and no notes, and the owner counts one pass more.

@@ -5,12 +5,12 @@ use Rattle.gt_core.specs.Task.{Task}
 use Rattle.gt_core.specs.Published.{order_of}
 use Rattle.clause_base.specs.Formula.{IsModel, IsUnsatisfiable, assignment_of}
 use Rattle.gt_core.specs.Step.{IsStepPlan}
-use Rattle.horizon_formula.specs.Variables.{layout_of, chain_places}
-use Rattle.horizon_formula.specs.Coded.{formula_of}
+use Rattle.formula_defs.specs.Variables.{layout_of, chain_places}
+use Rattle.formula_defs.specs.Coded.{formula_of}
 use Rattle.step_laws.specs.Form.{OrderedTask, IsOrderedTask, AreSets, member_at, steps_at}
 use Rattle.step_laws.specs.Stepping.{IsStepping}
-use Rattle.step_laws.proofs.MembersLaw as members
-use Rattle.step_laws.proofs.ExistsSteps.{exists_steps}
+use Rattle.step_laws.proofs.published.MembersLaw as members
+use Rattle.step_laws.proofs.published.ExistsSteps.{exists_steps}
 use Rattle.step_encoding.specs.Numbers.{HasNumbersOf}
 
 module _ (places : Task → List (List ℕ) → List (List ℕ × ℕ)) (are_plan : Task → List ℕ → (ℕ → ℕ → Bool) → ℕ → Type 0) where

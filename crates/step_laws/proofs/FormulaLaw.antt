@@ -5,22 +5,22 @@ use Rattle.gt_core.specs.Task.{Task, EffectOf, effects, precondition, initial_st
 use Rattle.gt_core.specs.Interference.{disables, Knows, takes, reads}
 use Rattle.gt_core.specs.Step.{IsStep}
 use Rattle.gt_core.specs.Published.{Pairwise}
-use Rattle.horizon_formula.specs.Layout.{Layout, action_at, conditional_at, chain_at, fact_at}
-use Rattle.gt_core.proofs.Basics.{apart, Among, all_at, all_from, each_at, each_from, any_same, all_same, or_split, or_left, or_right, not_false, not_true, test_same}
-use Rattle.gt_core.proofs.Literals.{holds_same, below_range}
-use Rattle.horizon_formula.specs.Clause.{Is, Not, clause_true, AllTrue}
-use Rattle.horizon_formula.specs.Chain.{enter_clauses, pass_clauses}
-use Rattle.horizon_formula.specs.Variables.{Row, rows, has_condition, Chain, chains_from, chains, layout_of, variable_at}
-use Rattle.horizon_formula.specs.Formula.{literal_over, precondition_clauses, effect_clauses, frame_clauses, chain_clauses, step_clauses, initial_clauses, goal_clauses, is_single, pair_clause, pair_clauses, clauses_of_horizon}
-use Rattle.horizon_formula.proofs.Satisfied.{joined, satisfied_all, satisfied_map_all}
+use Rattle.formula_defs.specs.Layout.{Layout, action_at, conditional_at, chain_at, fact_at}
+use Rattle.gt_core.proofs.published.Basics.{apart, Among, all_at, all_from, each_at, each_from, any_same, all_same, or_split, or_left, or_right, not_false, not_true, test_same}
+use Rattle.gt_core.proofs.published.Literals.{holds_same, below_range}
+use Rattle.formula_defs.specs.Clause.{Is, Not, clause_true, AllTrue}
+use Rattle.formula_defs.specs.Chain.{enter_clauses, pass_clauses}
+use Rattle.formula_defs.specs.Variables.{Row, rows, has_condition, Chain, chains_from, chains, layout_of, variable_at}
+use Rattle.formula_defs.specs.Formula.{literal_over, precondition_clauses, effect_clauses, frame_clauses, chain_clauses, step_clauses, initial_clauses, goal_clauses, is_single, pair_clause, pair_clauses, clauses_of_horizon}
+use Rattle.formula_defs.proofs.published.Satisfied.{joined, satisfied_all, satisfied_map_all}
 use Rattle.step_laws.proofs.StepLaw.{is_effective, StepHolds, StepMeans, step_holds}
 use Rattle.step_laws.proofs.StepClauses.{over, effect_of_row, Means, unconditional, hold_clauses, preconditions_write}
 use Rattle.step_laws.proofs.ChainLaw.{NoneBefore, enter_holds, pass_holds}
 use Rattle.gt_core.specs.Execution.{IsGoal}
-use Rattle.horizon_formula.proofs.InRange.{IsInRange, past}
-use Rattle.horizon_formula.proofs.Counts.{conditional_count}
+use Rattle.formula_defs.proofs.published.InRange.{IsInRange, past}
+use Rattle.formula_defs.proofs.published.Counts.{conditional_count}
 use Rattle.step_laws.proofs.Assignment.{Agrees, at, at_agrees, agrees_within, conditional_values, length-conditional_values, conditional_value, chain_values, length-chain_values, chain_at_place, has_chain_values, values, at_action, at_conditional, at_chain, at_fact}
-use Rattle.gt_core.proofs.RunLaw.{disables_over}
+use Rattle.gt_core.proofs.published.RunLaw.{disables_over}
 
 -- the members of each place differ, and none in the step disables a later one
 abbrev pub AreApart : Task → List (List ℕ × ℕ) → (ℕ → Bool) → Type 0

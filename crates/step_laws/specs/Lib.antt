@@ -1,4 +1,3 @@
 pub mod Form
 pub mod Stepping
-pub mod Laws
-pub mod AllPlan
+pub mod own

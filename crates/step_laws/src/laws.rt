@@ -1,6 +1,6 @@
 //! What the formula of a horizon says, as a contract.
 
-ghost use Rattle.step_laws.specs.Laws.{SatisfyingIsPlan, PlanIsSatisfying, UnsatisfiableIsNoPlan, SequenceIsPlan};
+ghost use Rattle.step_laws.specs.own.Laws.{SatisfyingIsPlan, PlanIsSatisfying, UnsatisfiableIsNoPlan, SequenceIsPlan};
 
 /// The laws of a horizon's formula. It does nothing.
 pub fn laws()

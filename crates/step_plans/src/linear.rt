@@ -5,7 +5,7 @@ ghost use Rattle.std.specs.List.{filter};
 ghost use Rattle.gt_core.specs.Literal.{is_in};
 ghost use Rattle.gt_core.specs.Published.{order_of};
 ghost use Rattle.step_plans.specs.Plans.{in_order};
-ghost use Rattle.step_plans.specs.Linear.{ArePlanOf};
+ghost use Rattle.step_plans.specs.own.Linear.{ArePlanOf};
 
 use action_order::numbers::ActNumbers;
 use action_order::order::Order;

@@ -8,7 +8,7 @@ use std::alloc::{AllocGlobal, Global};
 use std::process::Abort;
 use std::sync::Wait;
 use std::thread::Threads;
-use test_doubles::gates::{CountGate, Notes, PairGate};
+use test_kit::gates::{CountGate, Notes, PairGate};
 
 /// A file's name and its bytes.
 pub(crate) type Named<'a> = (&'a str, &'a [u8]);

@@ -1,5 +1,5 @@
 use Rattle.step_laws.proofs.FormLaw.{plans, satisfied, refutes}
-use Rattle.step_laws.proofs.SequenceLaw.{one_by_one, sequence_is_plan}
+use Rattle.step_laws.proofs.published.SequenceLaw.{one_by_one, sequence_is_plan}
 use Rattle.step_laws.proofs.laws.laws.Goals as goal
 
 pub returns-clause-satisfying_is_plan : goal.returns-clause-satisfying_is_plan

@@ -1,0 +1,7 @@
+pub mod Answers
+pub mod Causes
+pub mod Headline
+pub mod Ended
+pub mod Command
+pub mod Requested
+pub mod Seen

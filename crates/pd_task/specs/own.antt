@@ -1,0 +1,10 @@
+pub mod Atoms
+pub mod Effects
+pub mod Action
+pub mod Declarations
+pub mod Scope
+pub mod Found
+pub mod Headed
+pub mod KeyValues
+pub mod Tables
+pub mod Told

@@ -1,0 +1,4 @@
+pub mod Numbered
+pub mod Head
+pub mod Corridor
+pub mod Gripper

@@ -1,0 +1,4 @@
+pub mod Causes
+pub mod Parts
+pub mod Complete
+pub mod OneReport

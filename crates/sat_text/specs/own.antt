@@ -1,0 +1,4 @@
+pub mod Words
+pub mod Cut
+pub mod Short
+pub mod Reading
