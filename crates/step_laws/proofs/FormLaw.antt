@@ -144,7 +144,7 @@ module _ (form : OrderedTask) (is : IsOrderedTask form) where
       )
 
   -- in a step the members of a component are apart
-  component_parts : (members : ℕ → Bool) → Pairwise (λ a b. members a ≡ true → members b ≡ true → disables task a b ≡ false) order → AreApart task (places_of form) members
+  pub component_parts : (members : ℕ → Bool) → Pairwise (λ a b. members a ≡ true → members b ≡ true → disables task a b ≡ false) order → AreApart task (places_of form) members
   component_parts members o ks m i =
       let among = component_of form.task form.components (ks, m) i in
       pairwise_both _ _ ks (distinct ks among) (pairwise_in _ form.components ks among o)

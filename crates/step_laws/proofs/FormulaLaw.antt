@@ -42,10 +42,10 @@ module _ (task : Task) (pairs : List (ℕ × ℕ)) (places : List (List ℕ × �
   v_action : (t a : ℕ) → t < n → a < length task.actions → v (action_at z t a) ≡ steps t a
   v_action t a lt la = at_action z steps of_conditionals of_chains states t a lt la
 
-  v_fact : (t f : ℕ) → f < task.facts → v (fact_at z t f) ≡ states t f
+  pub v_fact : (t f : ℕ) → f < task.facts → v (fact_at z t f) ≡ states t f
   v_fact t f lf = at_fact z steps of_conditionals of_chains states t f lf
 
-  v_holds : (t l : ℕ) → l / 2 < task.facts → holds (λ f. v (fact_at z t f)) l ≡ holds (states t) l
+  pub v_holds : (t l : ℕ) → l / 2 < task.facts → holds (λ f. v (fact_at z t f)) l ≡ holds (states t) l
   v_holds t l h = holds_same (λ f. v (fact_at z t f)) (states t) l (v_fact t (l / 2) h)
 
   v_active : (t : ℕ) → t < n → (e : EffectOf) → Among e (effects task) → is_effective (λ a. v (action_at z t a)) (λ f. v (fact_at z t f)) e ≡ is_effective (steps t) (states t) e
@@ -139,7 +139,7 @@ module _ (task : Task) (pairs : List (ℕ × ℕ)) (places : List (List ℕ × �
   initial_by f true e = or_left _ _ e
   initial_by f false e = or_left _ _ (not_false _ e)
 
-  pair_by : (t l m : ℕ) (b c : Bool) → (l == m) ≡ b → (holds (λ f. v (fact_at z t f)) l || holds (λ f. v (fact_at z t f)) m) ≡ true → AllTrue v (if b then (literal_over (fact_at z t) l ∷ []) ∷ [] else if c then [] else (literal_over (fact_at z t) l ∷ literal_over (fact_at z t) m ∷ []) ∷ [])
+  pub pair_by : (t l m : ℕ) (b c : Bool) → (l == m) ≡ b → (holds (λ f. v (fact_at z t f)) l || holds (λ f. v (fact_at z t f)) m) ≡ true → AllTrue v (if b then (literal_over (fact_at z t) l ∷ []) ∷ [] else if c then [] else (literal_over (fact_at z t) l ∷ literal_over (fact_at z t) m ∷ []) ∷ [])
   pair_by t l m true c e h = (or_left _ _ (over v (fact_at z t) l ∙ elim (or_split _ _ h) [ inl x ↦ x | inr x ↦ ap (holds (λ f. v (fact_at z t f))) (test_same _ _ e) ∙ x ]), tt)
   pair_by t l m false true e h = tt
   pair_by t l m false false e h = (elim (or_split _ _ h) [ inl x ↦ or_left _ _ (over v (fact_at z t) l ∙ x) | inr x ↦ or_right _ _ (or_left _ _ (over v (fact_at z t) m ∙ x)) ], tt)

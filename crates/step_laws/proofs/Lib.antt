@@ -9,4 +9,5 @@ pub mod FormLaw
 pub mod AllBackward
 pub mod AllWays
 pub mod AllReading
+pub mod NeverLaw
 pub mod published

@@ -1,3 +1,4 @@
 pub mod Form
 pub mod Stepping
+pub mod Never
 pub mod own
