@@ -7,6 +7,8 @@
 //!
 //! `marks` has sets that are filled and emptied again and again: a table with a mark for each number is made once, and putting in,
 //! asking and emptying touch only the numbers that were put in.
+//!
+//! The next least number is sought in the word of the last one first, then in the words near it, and then from the top.
 #![tactic(auto)]
 
 pub mod first;

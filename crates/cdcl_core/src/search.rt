@@ -26,7 +26,7 @@ use propagation::propagator::Propagator;
 use std::alloc::Global;
 use std::marker::Model;
 
-/// At each so manyth conflict the search restarts: it backtracks to level 0, and drops learned clauses.
+/// After each so many conflicts the search restarts: it backtracks to level 0, and drops learned clauses.
 const RESTART: u64 = 64;
 
 /// A search over a formula: its clauses with the log, what propagates, which owns the trail, the room in which conflicts are worked
@@ -50,7 +50,7 @@ impl Model for Search {
     ghost invariant = { λ s. IsKept s.clauses s.propagator s.analysis s.standing s.spoilt };
 }
 
-/// Letting one go is one call, in which its parts go: whoever holds one proves one step.
+/// All parts are let go in one call, so that a proof has one step for it and not one for each part.
 impl Drop for Search {
     fn drop(self) {
         let_go!(self: Search { alloc, clauses, propagator, analysis, standing, spoilt });

@@ -64,13 +64,14 @@ fn tell<C: Chooser>(chooser: &C, told: &mut C::Told, kept: usize, search: &Searc
     }
 }
 
-/// Letting one go is one call, in which its parts go: whoever holds one proves one step.
+/// All parts are let go in one call, so that a proof has one step for it and not one for each part.
 impl<C: Chooser + Drop> Drop for Solver<C> {
     fn drop(self) {
         let_go!(self: Solver { search, chooser, told, kept });
     }
 }
 
+// The chooser's type has to be one that is dropped, since formula and chooser are let go where memory is wanting.
 impl<C: Chooser + Drop> Solver<C> {
     /// The solver with a search before any event, of which its chooser is told nothing yet.
     fn over(alloc: Global, search: Search, chooser: C) -> Result<Solver<C>, Memory>

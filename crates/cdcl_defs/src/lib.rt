@@ -3,6 +3,8 @@
 //! 1999; Zhang, Madigan, Moskewicz and Malik, 2001). `law` tells that a run may be cut wherever one likes.
 //!
 //! `sound_runs` tells what every state of a run keeps, and how its runs are cut.
+//!
+//! The only code is the types of trail entries, events and standing, and `runs_are_sound`, which does nothing: its clauses are laws.
 #![tactic(auto)]
 
 pub mod event;

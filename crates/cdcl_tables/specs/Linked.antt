@@ -10,6 +10,7 @@ no_node = record { next = 4294967295; blocking = 0 }
 abbrev pub next_of : List Node → ℕ → ℕ
 next_of nodes a = (slice_index_or nodes a no_node).next
 
+-- the blocking literal of a node
 abbrev pub blocking_of : List Node → ℕ → ℕ
 blocking_of nodes a = (slice_index_or nodes a no_node).blocking
 

@@ -25,6 +25,7 @@ pub record IsInPairs (pairs : List (List Pair)) (clause : List ℕ) (number : �
 abbrev pub IsPairOf : List (List ℕ) → ℕ → Pair → Type 0
 IsPairOf clauses code pair = (clause_in clauses pair.number ≡ code ∷ pair.other ∷ []) ⊎ (clause_in clauses pair.number ≡ pair.other ∷ code ∷ [])
 
+-- each listed pair of a literal is one of a clause of two literals that has it
 abbrev pub AreExact : List (List ℕ) → List (List Pair) → Type 0
 AreExact clauses pairs = (code place : ℕ) → place < length (pairs_of pairs code) → IsPairOf clauses code (pair_in (pairs_of pairs code) place)
 

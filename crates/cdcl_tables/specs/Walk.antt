@@ -24,6 +24,7 @@ abbrev pub steps : List Node → ℕ → ℕ → ℕ
 steps nodes zero a = 0
 steps nodes (suc n) a = if a == 4294967295 then 0 else suc (steps nodes n (next_of nodes a))
 
+-- how many nodes are ahead of this one on its chain
 unfoldable pub left_from : List Node → ℕ → ℕ
 left_from nodes a = steps nodes (length nodes) a
 

@@ -42,7 +42,7 @@ impl Model for PairIndex {
     ghost invariant = { λ i. IsShape i.shape × AreTables i.shape i.told (arc_value i.step) (arc_value i.time) i.after };
 }
 
-/// Letting one go is one call, in which its parts go: whoever holds one proves one step.
+/// All parts are let go in one call, so that a proof has one step for it and not one for each part.
 impl Drop for PairIndex {
     fn drop(self) {
         let_go!(self: PairIndex { shape, told, step, time, after });

@@ -28,7 +28,7 @@ impl Model for Store {
     ghost invariant = { λ s. IsStored s.formula.clauses s.given s.added.items };
 }
 
-/// Letting one go is one call, in which its parts go: whoever holds one proves one step.
+/// All parts are let go in one call, so that a proof has one step for it and not one for each part.
 impl Drop for Store {
     fn drop(self) {
         let_go!(self: Store { formula, given, added });

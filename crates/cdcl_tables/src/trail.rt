@@ -38,7 +38,7 @@ impl Model for Trail {
     ghost invariant = { λ t. IsMirrored t.variables t.entries.items t.values t.starts.items × IsPlaced t.variables (literals t.entries.items) t.positions.items × (t.variables ≤ vec_capacity t.entries) × (t.variables ≤ vec_capacity t.starts) };
 }
 
-/// Letting one go is one call, in which its parts go: whoever holds one proves one step.
+/// All parts are let go in one call, so that a proof has one step for it and not one for each part.
 impl Drop for Trail {
     fn drop(self) {
         let_go!(self: Trail { variables, entries, values, positions, starts });

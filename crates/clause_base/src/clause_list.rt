@@ -27,7 +27,7 @@ impl Model for ClauseList {
     ghost invariant = { λ c. All IsClause c.lists };
 }
 
-/// Letting one go is one call, in which its parts go: whoever holds one proves one step.
+/// All parts are let go in one call, so that a proof has one step for it and not one for each part.
 impl Drop for ClauseList {
     fn drop(self) {
         let_go!(self: ClauseList { lists, sorted });

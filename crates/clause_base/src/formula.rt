@@ -27,7 +27,7 @@ pub struct Formula {
     after: ClauseList,
 }
 
-/// Letting one go is one call, in which its parts go: whoever holds one proves one step.
+/// All parts are let go in one call, so that a proof has one step for it and not one for each part.
 impl Drop for Formula {
     fn drop(self) {
         let_go!(self: Formula { name, variables, told, repeated, after });

@@ -29,7 +29,7 @@ impl Model for PairTable {
     ghost invariant = { λ t. AreOffsets t.offsets.items (length t.items.items) };
 }
 
-/// Letting one go is one call, in which its parts go: whoever holds one proves one step.
+/// All parts are let go in one call, so that a proof has one step for it and not one for each part.
 impl Drop for PairTable {
     fn drop(self) {
         let_go!(self: PairTable { offsets, items });

@@ -34,7 +34,7 @@ impl Model for Repeated {
     ghost invariant = { λ r. IsSized (record { horizon = r.horizon; width = r.width; facts = r.facts; step = r.step; time = r.time }) r.sizes.first r.sizes.per_step r.sizes.per_time r.sizes.steps r.sizes.all };
 }
 
-/// Letting one go is one call, in which its parts go: whoever holds one proves one step.
+/// All parts are let go in one call, so that a proof has one step for it and not one for each part.
 impl Drop for Repeated {
     fn drop(self) {
         let_go!(self: Repeated { horizon, width, facts, sizes, step, time });

@@ -39,7 +39,7 @@ impl Model for SharedList {
     ghost invariant = { λ s. HasTable s.held };
 }
 
-/// Letting one go is one call, in which its parts go: whoever holds one proves one step.
+/// All parts are let go in one call, so that a proof has one step for it and not one for each part.
 impl Drop for SharedList {
     fn drop(self) {
         let SharedList { held: _ } = self;

@@ -18,6 +18,7 @@ pub struct Moving<'a> {
 
 /// The literals of a clause, read where they stand: each is moved as it is read, so that a clause that is seen many times
 /// stands once.
+/// It is no `Copy`, since a struct that borrows and has a model can be none.
 #[derive(Drop)]
 pub struct View<'a> {
     lits: &'a [Lit],

@@ -109,6 +109,7 @@ abbrev pub OfTwo : List (List ℕ) → (List ℕ → List ℕ → Type 0) → Ty
 OfTwo (first ∷ second ∷ []) claim = claim first second
 OfTwo files claim = ⊥
 
+-- the claim holds of the files, which are three
 abbrev pub OfThree : List (List ℕ) → (List ℕ → List ℕ → List ℕ → Type 0) → Type 0
 OfThree (first ∷ second ∷ third ∷ []) claim = claim first second third
 OfThree files claim = ⊥

@@ -9,6 +9,9 @@
 //!
 //! A caller that runs several races side by side reads and grounds each task by `ready_with` of plan_tasks, finds what is known of it by
 //! [`raced::known_of`], and tells of its race by [`reported::reported`].
+//!
+//! `raced` has the invariants, the order, the form and the race, `reported` the report on it, `answer` one function a command, `certify` the
+//! commands on certificates, `generated` the command `gen`.
 #![tactic(auto)]
 
 pub mod answer;

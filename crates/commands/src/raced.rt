@@ -48,7 +48,7 @@ pub struct Known {
     pub order: Order,
 }
 
-/// Letting one go is one call, in which its parts go: whoever holds one proves one step.
+/// All parts are let go in one call, so that a proof has one step for it and not one for each part.
 impl Drop for Known {
     fn drop(self) {
         let Known { pairs: _, order: _ } = self;

@@ -42,7 +42,7 @@ impl Model for Clauses {
     ghost invariant = { λ c. (length (clauses_of c.log) ≤ 1073741824) × (c.longs.items ≡ long_ones (length c.formula.clauses) (c.formula.clauses ++ clauses_of c.log) (kept_of (length c.formula.clauses) c.log)) };
 }
 
-/// Letting one go is one call, in which its parts go: whoever holds one proves one step.
+/// All parts are let go in one call, so that a proof has one step for it and not one for each part.
 impl Drop for Clauses {
     fn drop(self) {
         let_go!(self: Clauses { formula, log, longs });

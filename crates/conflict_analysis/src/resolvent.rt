@@ -35,7 +35,7 @@ impl Model for Resolvent {
     ghost view = { λ r. record { words = r.marks.items; count = r.count } };
 }
 
-/// Letting one go is one call, in which its parts go: whoever holds one proves one step.
+/// All parts are let go in one call, so that a proof has one step for it and not one for each part.
 impl Drop for Resolvent {
     fn drop(self) {
         let Resolvent { marks: _, count: _ } = self;

@@ -40,6 +40,7 @@ result_clause next var all r =
     Not (var r) ∷ literal_over next r.effect.literal
     ∷ (if r.effect.literal % 2 == 0 then [] else effects_with var (λ e. (e.action == r.effect.action) && (e.literal == opposite r.effect.literal)) all)
 
+-- the clauses of all effects of a step: what each means, and what it results in
 abbrev pub effect_clauses : (act now next : ℕ → ℕ) (var : Row → ℕ) → List Row → List Row → List (List Literal)
 effect_clauses act now next var all rows =
     flat_map (λ r. meaning_clauses act now var r ++ result_clause next var all r ∷ []) rows

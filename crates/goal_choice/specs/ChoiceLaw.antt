@@ -13,10 +13,12 @@ abbrev IsOpen : Known → Option ℕ → Type 0
 IsOpen values None = Unit {0}
 IsOpen values (Some c) = slice_get values (c / 2) ≡ Some None
 
+-- a support that is a decision decides a variable without a value
 abbrev IsOpenSupport : Known → Support → Type 0
 IsOpenSupport values (Chooses c) = slice_get values (c / 2) ≡ Some None
 IsOpenSupport values (Wants ls) = Unit {0}
 
+-- the variable of a supporter that was found has no value
 abbrev IsOpenSupporter : Known → ℕ → Option Supporter → Type 0
 IsOpenSupporter values start None = Unit {0}
 IsOpenSupporter values start (Some s) = slice_get values (variable_from start s) ≡ Some None
@@ -72,6 +74,7 @@ or_open : (values : Known) (o : Option ℕ) → IsOpen values o → IsOpenChoice
 or_open values None h = plain_choice-open values
 or_open values (Some c) h = h
 
+-- the law: what the choice decides is a variable without a value
 pub choice-open : (m : Means) (values : Known) → IsOpenChoice values (choice_by m values)
 choice-open m values =
     or_open values (walk (support_of m values) m.layout.horizon m.goal) (walk_open values (support_of m values) (λ t l. one_open t l) m.layout.horizon m.goal)

@@ -13,6 +13,7 @@ pub record Supporter : Type 0 where
   pub variable : ℕ
   pub needs : List ℕ
 
+-- the supporter that an effect is: its variable in the first step, and what has to hold before it
 abbrev pub supporter_of : Task → Layout → Row → Supporter
 supporter_of task z r = record { variable = variable_at z 0 r; needs = precondition task r.effect.action ++ r.effect.condition }
 

@@ -22,6 +22,7 @@ use std::marker::Model;
 
 /// The chooser of actions backwards from the goals. It fits the number of variables of the layout that it was made with. Beside
 /// what it chooses by it has two sets to write over.
+/// It borrows nothing, so that it can be handed to a worker.
 #[derive(Drop)]
 pub struct GoalChooser {
     means: Supporters,

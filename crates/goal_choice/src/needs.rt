@@ -17,7 +17,7 @@ pub(crate) struct Needs {
     pub(crate) conditions: FlatLists<u32>,
 }
 
-/// Letting one go is one call, in which its parts go: whoever holds one proves one step.
+/// All parts are let go in one call, so that a proof has one step for it and not one for each part.
 impl Drop for Needs {
     fn drop(self) {
         let_go!(self: Needs { preconditions, actions, conditions });

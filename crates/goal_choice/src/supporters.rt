@@ -29,7 +29,7 @@ struct Blocks {
     needs: Needs,
 }
 
-/// Letting one go is one call, in which its parts go: whoever holds one proves one step.
+/// All parts are let go in one call, so that a proof has one step for it and not one for each part.
 impl Drop for Blocks {
     fn drop(self) {
         let_go!(self: Blocks { goal, variables, rising, needs });

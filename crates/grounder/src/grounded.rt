@@ -49,7 +49,7 @@ impl Model for Grounded {
     ghost view = { λ g. record { facts = g.facts; calls = g.calls; task = g.task } };
 }
 
-/// Letting one go is one call, in which its parts go: whoever holds one proves one step.
+/// All parts are let go in one call, so that a proof has one step for it and not one for each part.
 impl Drop for Grounded {
     fn drop(self) {
         let_go!(self: Grounded { facts, calls, task });
@@ -171,7 +171,7 @@ struct Numbered {
     task: Task,
 }
 
-/// Letting one go is one call, in which its parts go: whoever holds one proves one step.
+/// All parts are let go in one call, so that a proof has one step for it and not one for each part.
 impl Drop for Numbered {
     fn drop(self) {
         let_go!(self: Numbered { calls, task });

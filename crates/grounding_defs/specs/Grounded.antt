@@ -11,6 +11,7 @@ use Rattle.grounding_defs.specs.Reach.{IsFact, IsAction}
 use Rattle.grounding_defs.specs.Sorted.{atom_less, call_less, IsSorted}
 use Rattle.grounding_defs.specs.Simplify.{task_of}
 
+-- the same schema and the same objects, by number
 abbrev pub same_call : Call → Call → Bool
 same_call c d = (c.schema == d.schema) && same_numbers c.objects d.objects
 

@@ -59,6 +59,7 @@ pub record KnowsAtoms (p : Parts) (t : List Atom) : Type 0 where
   pub known : (a : Atom) → IsTrue (is_in a t) → IsFact p a ⊎ IsConstant p a
   pub constant : (a : Atom) → IsConstant p a → IsTrue (is_in a t)
 
+-- the law that each atom of a state that calls lead to is a fact or constant, and each constant atom is in it
 abbrev pub AtomsAreKnown : Type 0
 AtomsAreKnown =
     (p : Parts) (g : Grounded) → IsGrounded p g

@@ -41,6 +41,7 @@ is_never p facts (Holds a true) = not (is_in a facts) && not (is_in a p.init)
 is_never p facts (Holds a false) = not (is_in a facts) && is_in a p.init
 is_never p facts (Fixed truth) = not truth
 
+-- some literal is never true
 abbrev pub any_never : Parts → List Atom → List GroundLiteral → Bool
 any_never p facts literals = list_any (is_never p facts) literals
 
@@ -48,6 +49,7 @@ any_never p facts literals = list_any (is_never p facts) literals
 abbrev pub is_left : Parts → List Atom → Change → Bool
 is_left p facts e = is_in e.atom facts && not (any_never p facts e.condition)
 
+-- the effect of a change: the literal of its atom's fact, under what is left of its condition
 abbrev pub effect_of : List Atom → Change → Effect
 effect_of facts e = record { condition = simplified facts e.condition; literal = fact_literal facts e.atom e.adds }
 

@@ -14,6 +14,7 @@ abbrev pub effect_tuples : Parts → List ℕ → ℕ
 effect_tuples p [] = 0
 effect_tuples p (kind ∷ kinds) = product_of p (kind ∷ kinds)
 
+-- the tuples of a schema: those of its parameters, and with each of them those of each effect under a `forall`
 abbrev pub schema_tuples : Parts → Schema → ℕ
 schema_tuples p s = product_of p s.parameters * (1 + sum_by (λ e. effect_tuples p e.over) s.effects)
 

@@ -50,7 +50,7 @@ impl Model for AheadRun {
     ghost invariant = { λ a. IsAhead a.run a.granted a.mark };
 }
 
-/// Letting one go is one call, in which its parts go: whoever holds one proves one step.
+/// All parts are let go in one call, so that a proof has one step for it and not one for each part.
 impl Drop for AheadRun {
     fn drop(self) {
         let_go!(self: AheadRun { run, granted, most, mark, alloc });

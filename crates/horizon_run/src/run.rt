@@ -44,7 +44,7 @@ impl Model for HorizonRun {
     ghost invariant = { λ r. IsRun (choice_by r.solver.chooser) r.solver.formula r.solver.state r.granted r.solver.spoilt };
 }
 
-/// Letting one go is one call, in which its parts go: whoever holds one proves one step.
+/// All parts are let go in one call, so that a proof has one step for it and not one for each part.
 impl Drop for HorizonRun {
     fn drop(self) {
         let_go!(self: HorizonRun { solver, granted });

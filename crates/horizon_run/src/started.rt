@@ -32,7 +32,7 @@ impl Model for Started {
     ghost invariant = { λ s. (s.horizon ≡ (run_in s.held).formula.name) × HasLaws s.held };
 }
 
-/// Letting one go is one call, in which its parts go: whoever holds one proves one step.
+/// All parts are let go in one call, so that a proof has one step for it and not one for each part.
 impl Drop for Started {
     fn drop(self) {
         let_go!(self: Started { held, most, horizon, alloc });

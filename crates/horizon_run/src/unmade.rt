@@ -43,7 +43,7 @@ impl Model for Unmade {
     ghost invariant = { λ u. u.formula.variables ≡ variables u.chooser.layout };
 }
 
-/// Letting one go is one call, in which its parts go: whoever holds one proves one step.
+/// All parts are let go in one call, so that a proof has one step for it and not one for each part.
 impl Drop for Unmade {
     fn drop(self) {
         let_go!(self: Unmade { formula, chooser });

@@ -4,6 +4,13 @@
 //! run in memory. [`MemShelf`] and [`MemSink`] tell what they hold; [`FileShelf`] and [`OutSink`] stand before the
 //! system's files and the standard output: the one tells no content, the other what the system counted as taken. Of every shelf and
 //! of every tape it is written down, for clauses alone and without memory, what it handed over ([`Heard`], [`Sent`]). [`put_all`] is a whole caller of a sink.
+//!
+//! What is noted of a run is set in one place, the private `Heard::add`, by a proof by hand; `Sent` is a model over `Heard`. Both take no
+//! memory, and their calls do nothing when run.
+//!
+//! `Tape` is a file that is taken piece by piece, from front to back, so that a pipe will do. A file of the shelf is read in pieces of 16 KiB
+//! into room that is made once, by the size that the file gives of itself; at most as many bytes are kept as were asked for, and reading ends
+//! as soon as one more was seen. The memory types fail at the calls that they are told to, so that a test runs the planner from bytes to bytes.
 #![tactic(auto)]
 
 mod faults;

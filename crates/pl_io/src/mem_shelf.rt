@@ -28,7 +28,7 @@ impl Model for MemShelf {
     ghost view = { λ shelf. record { files = shelf.files; failing = shelf.failing; calls = shelf.calls; failed = shelf.failed; heard = shelf.heard.entries } };
 }
 
-/// Letting one go is one call, in which its parts go: whoever holds one proves one step.
+/// All parts are let go in one call, so that a proof has one step for it and not one for each part.
 impl Drop for MemShelf {
     fn drop(self) {
         let_go!(self: MemShelf { alloc, files, failing, calls, failed, heard });

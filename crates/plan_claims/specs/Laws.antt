@@ -10,6 +10,7 @@ use Rattle.step_plans.specs.Laws.{StepPlansRun, ShortPlansAreStepPlans, OtherPla
 use Rattle.proof_log.specs.Laws.{OneSpelling, OnePlace, LinesAreRead, TextsAreFit}
 use Rattle.plan_report.specs.Laws.{LinesAreReadBack, PlansAreRead, StepsAreTold, HorizonsAreTold}
 
+-- all laws on which the promises of `run` rest
 pub record Laws : Type 0 where
   pub of_tasks : TaskLaws
   pub of_plans : PlanLaws

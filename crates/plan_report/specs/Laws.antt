@@ -27,6 +27,7 @@ HasActionsBelow n (Unfinished lines) = Unit {0}
 abbrev pub IsSmallLine : LineView → Type 0
 IsSmallLine line = (line.horizon < 2 ^ 64) × (line.conflicts < 2 ^ 64)
 
+-- the numbers of each line are numbers of 64 bits
 abbrev pub AreSmall : List LineView → Type 0
 AreSmall lines = All IsSmallLine lines
 

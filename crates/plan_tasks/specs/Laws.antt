@@ -4,6 +4,7 @@ use Rattle.two_invariants.specs.Laws.{OneListOfInvariants}
 use Rattle.grounding_defs.specs.Laws.{OneResult}
 use Rattle.step_plans.specs.Laws.{ShortPlansAreStepPlans, OtherPlansAreLonger, SetsAreLists}
 
+-- the laws of tasks and step plans on which claims of a task rest
 pub record TaskLaws : Type 0 where
   pub invariants : OneListOfInvariants
   pub unique : PublishedIsUnique

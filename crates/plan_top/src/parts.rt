@@ -24,7 +24,7 @@ pub struct Run {
     pub known: Known,
 }
 
-/// Letting one go is one call, in which its parts go: whoever holds one proves one step.
+/// All parts are let go in one call, so that a proof has one step for it and not one for each part.
 impl Drop for Run {
     fn drop(self) {
         let Run { ready: _, known: _ } = self;
@@ -48,7 +48,7 @@ pub struct Prepared {
     pub runs: Vec<Run>,
 }
 
-/// Letting one go is one call, in which its parts go: whoever holds one proves one step.
+/// All parts are let go in one call, so that a proof has one step for it and not one for each part.
 impl Drop for Prepared {
     fn drop(self) {
         let Prepared { ended: _, runs: _ } = self;

@@ -27,6 +27,7 @@ pub record RaceView (F : Type 0) : Type 0 where
   pub given : Bool
 
 module _ {F : Type 0} (g : Ghosts F) where
+  -- what the defined race is run on
   abbrev pub input_in : RaceView F → RaceInput
   input_in race = input_of g race.form race.settings
 

@@ -14,6 +14,10 @@
 //! let proof = read_proof(alloc, bytes)?;
 //! let text = write_proof(alloc, proof.horizon, &proof.log)?;     // the same bytes
 //! ```
+//!
+//! Nothing finds a clause of a log by its number: whoever needs that keeps the clauses beside it. `Reader` lends an entry where it stands
+//! (`Step`), its literals as a slice, or reads its hints into a vector (`take_into`), so that each is decoded once. That clauses and bytes are
+//! those of the list of entries is the invariant (`Held.antt`).
 #![tactic(auto)]
 
 mod clause;

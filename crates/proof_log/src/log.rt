@@ -32,7 +32,7 @@ impl Model for Log {
     ghost invariant = { λ l. IsHeld (entries_of l.count l.learned.items l.steps.items) l.count l.learned.items l.steps.items };
 }
 
-/// Letting one go is one call, in which its parts go: whoever holds one proves one step.
+/// All parts are let go in one call, so that a proof has one step for it and not one for each part.
 impl Drop for Log {
     fn drop(self) {
         let_go!(self: Log { alloc, count, learned, steps });

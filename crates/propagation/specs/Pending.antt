@@ -14,6 +14,7 @@ abbrev pub AreFalseFrom : List ℕ → List ℕ → ℕ → ℕ → ℕ → Type
 AreFalseFrom trail clause skipped low high =
     (p : ℕ) → low ≤ p → p < high → (slice_index clause p ≡ skipped → ⊥) → is_free (has_literal trail) (slice_index clause p) ≡ false
 
+-- all literals of a clause are false but this one
 abbrev pub AreFalseBut : List ℕ → List ℕ → ℕ → Type 0
 AreFalseBut trail clause skipped =
     (p : ℕ) → p < length clause → (slice_index clause p ≡ skipped → ⊥) → is_free (has_literal trail) (slice_index clause p) ≡ false

@@ -26,7 +26,7 @@ pub struct Pending {
     pub asks: Vec<u32>,
 }
 
-/// Letting one go is one call, in which its parts go: whoever holds one proves one step.
+/// All parts are let go in one call, so that a proof has one step for it and not one for each part.
 impl Drop for Pending {
     fn drop(self) {
         let_go!(self: Pending { numbers, asks });

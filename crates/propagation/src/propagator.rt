@@ -70,7 +70,7 @@ impl Model for Propagator {
     ghost invariant = { λ p. AreSound p.variables p.tables p.lists (literals p.trail.entries) p.quiet.items × IsPaired p.variables p.tables.store p.tables.slots.items p.pairs × (p.trail.variables ≡ p.variables) };
 }
 
-/// Letting one go is one call, in which its parts go: whoever holds one proves one step.
+/// All parts are let go in one call, so that a proof has one step for it and not one for each part.
 impl Drop for Propagator {
     fn drop(self) {
         let_go!(self: Propagator {

@@ -28,7 +28,7 @@ pub struct Lists {
     pub pending: Pending,
 }
 
-/// Letting one go is one call, in which its parts go: whoever holds one proves one step.
+/// All parts are let go in one call, so that a proof has one step for it and not one for each part.
 impl Drop for Lists {
     fn drop(self) {
         let_go!(self: Lists { chains, froms, pending });

@@ -36,6 +36,7 @@ pub record IsLine (input : RaceInput) (line : Line) : Type 0 where
   pub standing : (state_of_line input line).standing ≡ standing_of line.end
   pub marked : IsMarked input line.horizon (state_of_line input line) line.end
 
+-- each line is so
 abbrev pub AreLines : RaceInput → List Line → Type 0
 AreLines input ls = AllByRecursion (IsLine input) ls
 

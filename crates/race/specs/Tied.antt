@@ -56,6 +56,7 @@ pub record Ends (input : RaceInput) (end : RaceEnd) (stage : Stage) : Type 0 whe
   pub sums : SumsWithin input.budget end
   pub modelled : WherePlanned end (AreStepsOf input)
 
+-- the step that the code is at shows this stage of the defined race
 abbrev pub Stands : RaceInput → Step → Stage → Type 0
 Stands input (OnStep racing) stage = GoesOn input racing stage
 Stands input (EndStep end) stage = Ends input end stage

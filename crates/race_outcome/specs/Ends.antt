@@ -39,15 +39,18 @@ conflicts_in (line ∷ lines) = line.conflicts + conflicts_in lines
 
 -- ---- what the values of the program stand for
 
+-- the word for how a line of the program ends
 abbrev pub word_of : LineEnd → Word
 word_of (lines.Refuted stamp) = WordRefuted
 word_of lines.Dropped = WordDropped
 word_of lines.Going = WordOpen
 word_of lines.Found = WordPlan
 
+-- the line that a line of the program stands for
 abbrev pub line_view : Line → LineView
 line_view line = record { horizon = line.horizon; conflicts = line.conflicts; word = word_of line.end }
 
+-- the end that an end of the program stands for
 abbrev pub end_view : RaceEnd → EndView
 end_view (ends.Plan horizon steps lines) = Planned horizon steps (map line_view lines)
 end_view (ends.Exhausted horizon lines) = Exhausted horizon (map line_view lines)

@@ -31,6 +31,7 @@ impl<R: Resume> Ring<R> {
     ghost use Rattle.solver_pool.specs.Ring.{IsOwnerPass, IsWorkerPass};
 
     /// Gives out a pass for a worker. It has the owner's book and no notes, and the owner counts one pass more.
+    /// `Memory` does not come so far, since a pass takes no room.
     pub fn give<H: Wait>(&self, _rt: &H, owner: &mut Pass<R>) -> Result<Pass<R>, Memory>
         requires owner { IsOwnerPass R.Resume self.now owner.old }
         ensures owner { IsOwnerPass R.Resume self.now owner.new }

@@ -60,6 +60,7 @@ pub record Extends (task : Task) (places : List (List ℕ × ℕ)) (old new : Li
   pub actions : new.actions ≡ old.actions
   pub few : links_in new.chains ≤ links_in old.chains + members_in places
 
+-- no chain yet, of a task with so many actions
 abbrev pub no_chains : ℕ → LinkedChains
 no_chains actions = record { actions = actions; chains = []; variables = 0 }
 

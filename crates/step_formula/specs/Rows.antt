@@ -57,14 +57,18 @@ pub record IsIndex (z : Layout) (task : Task) (index : List (List ℕ)) : Type 0
 
 -- The clauses of effects in the first step of a layout.
 
+-- what an effect means: its action, its condition and its variable
 abbrev pub meaning_of : Layout → Row → List (List Literal)
 meaning_of z r = meaning_clauses (action_at z 0) (fact_at z 0) (variable_at z 0) r
 
+-- what an effect results in: its literal after the step, but for adds beside a delete
 abbrev pub result_of : Layout → List Row → Row → List Literal
 result_of z all r = result_clause (fact_at z 1) (variable_at z 0) all r
 
+-- the clauses of one effect
 abbrev pub effect_of : Layout → List Row → Row → List (List Literal)
 effect_of z all r = meaning_of z r ++ result_of z all r ∷ []
 
+-- the clauses of several effects
 abbrev pub effects_of : Layout → List Row → List Row → List (List Literal)
 effects_of z all rs = effect_clauses (action_at z 0) (fact_at z 0) (fact_at z 1) (variable_at z 0) all rs

@@ -2,7 +2,9 @@
 //! moved. Each clause group has a file of its own, and is what the definition in `formula_defs` lists of it.
 //!
 //! How many literals these clauses have is worked out by arithmetic, before any is built (`step_size`, `known_size`):
-//! `specs/Sizes.antt` has the numbers, and the laws of `proofs/` say that they are those of the clauses.
+//! `specs/own/Sizes.antt` has the numbers, and the laws of `proofs/` say that they are those of the clauses.
+//!
+//! The adds beside a delete are noted in one pass over the effects of an action (`adders`).
 #![tactic(auto)]
 
 pub mod adders;

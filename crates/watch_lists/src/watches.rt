@@ -46,7 +46,7 @@ impl Model for Watches {
     ghost invariant = { λ w. (w.first ≡ first_asked w.propagator.clauses w.propagator.kept (has_literal (literals w.propagator.entries))) × AreKnown w.propagator w.known.items };
 }
 
-/// Letting one go is one call, in which its parts go: whoever holds one proves one step.
+/// All parts are let go in one call, so that a proof has one step for it and not one for each part.
 impl Drop for Watches {
     fn drop(self) {
         let_go!(self: Watches {

@@ -4,6 +4,7 @@ use Rattle.gt_core.specs.Published.{Reaches}
 
 -- A graph is a row of bits for each vertex, which has the vertex's targets.
 
+-- the targets of a vertex as a row of bits; none past the last vertex
 abbrev pub row_at : List (List ℕ) → ℕ → List ℕ
 row_at rows a = slice_index_or rows a []
 
@@ -15,6 +16,7 @@ leads rows a b = row_has (row_at rows a) b
 abbrev pub IsGraph : List (List ℕ) → Type 0
 IsGraph rows = (a b : ℕ) → leads rows a b ≡ true → b < length rows
 
+-- the number at a place of a list; 0 past its end
 abbrev pub item : List ℕ → ℕ → ℕ
 item xs i = slice_index_or xs i 0
 

@@ -35,6 +35,7 @@ pub record IsReadyName (rows : List (List ℕ)) (names classes order : List ℕ)
   pub untaken : is_in order component ≡ false
   pub all : (b : ℕ) → leads rows component b ≡ true → is_in order (class_at classes b) ≡ true
 
+-- the list at a place; empty past the last
 abbrev pub list_at : List (List ℕ) → ℕ → List ℕ
 list_at lists k = slice_index_or lists k []
 

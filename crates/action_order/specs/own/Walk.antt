@@ -11,6 +11,7 @@ use Rattle.action_order.specs.declared.walk.Walk.{Walk}
 -- into segments that are strongly connected as far as edges were followed (Gabow 2000), and `work` has the places
 -- of the stack whose edges are not all followed.
 
+-- the mark of a vertex; unseen past the last
 abbrev pub mark_of : List Mark → ℕ → Mark
 mark_of marks v = slice_index_or marks v Unseen
 
@@ -36,6 +37,7 @@ pub record AreFinished (targets : List (List ℕ)) (marks : List Mark) (roots : 
   pub falls : (u v c : ℕ) → u < length targets → mark_of marks u ≡ Done c → leads targets u v ≡ true → (d : ℕ) × (mark_of marks v ≡ Done d) × (d ≤ c)
   pub used : (c : ℕ) → c < length roots → (item roots c < length targets) × (mark_of marks (item roots c) ≡ Done c)
 
+-- what the walk keeps of its marks, stack, segment starts, work and found roots at each of its steps
 pub record IsWalk (targets : List (List ℕ)) (marks : List Mark) (stack starts work roots : List ℕ) : Type 0 where
   pub marks_long : length marks ≡ length targets
   pub vertex : (p : ℕ) → p < length stack → item stack p < length targets
@@ -51,11 +53,13 @@ pub record IsWalk (targets : List (List ℕ)) (marks : List Mark) (stack starts 
   pub bottom : 0 < length stack → is_in starts 0 ≡ true
   pub finished : AreFinished targets marks roots
 
+-- the walk has not come to this vertex
 abbrev pub is_unseen : Mark → Bool
 is_unseen Unseen = true
 is_unseen (At p) = false
 is_unseen (Done c) = false
 
+-- this vertex is on the stack
 abbrev pub is_stacked : Mark → Bool
 is_stacked (At p) = true
 is_stacked (Done c) = false
@@ -66,6 +70,7 @@ pub record AreSets (marks : List Mark) (left_out on_stack : List ℕ) : Type 0 w
   pub unseen : (v : ℕ) → row_has left_out v ≡ (nat_lt v (length marks) && is_unseen (mark_of marks v))
   pub stacked : (v : ℕ) → row_has on_stack v ≡ is_stacked (mark_of marks v)
 
+-- what the walk of the program keeps: its lists are such a walk, and its two sets are those of its marks
 pub record IsWalkOf (targets : List (List ℕ)) (w : Walk) : Type 0 where
   pub walk : IsWalk targets w.marks.items w.stack.items w.starts.items w.work.items w.roots.items
   pub sets : AreSets w.marks.items w.unseen w.stacked

@@ -13,6 +13,7 @@ use Rattle.cdcl_tables.specs.own.Moved.{moved_pair}
 abbrev pub facts_begin : Shape → ℕ
 facts_begin z = 2 * (z.horizon * z.width)
 
+-- the code past the last fact of all times
 abbrev pub facts_end : Shape → ℕ
 facts_end z = 2 * (z.horizon * z.width + (z.horizon + 1) * z.facts)
 
@@ -20,12 +21,15 @@ facts_end z = 2 * (z.horizon * z.width + (z.horizon + 1) * z.facts)
 abbrev pub step_move : Shape → ℕ → Move
 step_move z u = record { width = z.width; step = u * z.width; facts = z.horizon * z.width + u * z.facts; first = z.tolds + u * z.steps }
 
+-- how the pairs of one time are moved to time t
 abbrev pub time_move : Shape → ℕ → Move
 time_move z t = record { width = 0; step = 0; facts = z.horizon * z.width + t * z.facts; first = z.tolds + (z.horizon * z.steps + t * z.times) }
 
+-- how pairs are moved that stand as they are, from this number of a clause on
 abbrev pub plain_move : ℕ → Move
 plain_move first = record { width = 0; step = 0; facts = 0; first = first }
 
+-- the number of the first clause that was added
 abbrev pub after_all : Shape → ℕ
 after_all z = z.tolds + (z.horizon * z.steps + (z.horizon + 1) * z.times)
 

@@ -50,6 +50,7 @@ support_among values start is_false l supporters =
       | None ↦ support_without start l (if is_false then least_with values None start supporters else None)
     ]
 
+-- what a wanted literal asks for at a time
 abbrev pub support_of : Means → Known → ℕ → ℕ → Support
 support_of m values t l = support_among values (start_of m.layout t) (is_false_at m.layout values t l) l (slice_index_or m.supporters l [])
 

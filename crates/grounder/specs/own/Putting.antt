@@ -18,6 +18,7 @@ add_literal (Some l) literals = literals ++ l ∷ []
 abbrev pub effect_at : Keyed → Effect
 effect_at k = record { condition = k.condition.items; literal = k.literal }
 
+-- the effects that such values stand for
 abbrev pub effects_at : List Keyed → List Effect
 effects_at keys = map effect_at keys
 

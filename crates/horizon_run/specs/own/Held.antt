@@ -8,6 +8,7 @@ use Rattle.horizon_run.specs.declared.held.Held.TheVariants.{Unmade, Made, Lost}
 abbrev pub lost_of : RunView → RunView
 lost_of r = record (moved_to r 0) { spoilt = true }
 
+-- the run that clients see: one that is not made is seen as the run that it makes, a lost one as spoilt
 abbrev pub run_in : Held → RunView
 run_in (Unmade r old) = r
 run_in (Made r) = r

@@ -3,6 +3,7 @@ use Rattle.std.specs.Prelude.{◌≡◌, ℕ, zero, suc, Bool, true, false, ◌|
 use Rattle.horizon_run.specs.Run.{RunView}
 use Rattle.horizon_run.specs.own.Resume.{goes}
 
+-- the number is 0
 abbrev pub is_none : ℕ → Bool
 is_none zero = true
 is_none (suc n) = false
@@ -20,6 +21,7 @@ still_begun r = record r { granted = one_if r.granted }
 abbrev pub may_go : RunView → Bool
 may_go r = is_none r.granted || goes r
 
+-- the law that a number and what is left of its being 0 are 0 together
 pub none-of : (n : ℕ) → is_none (one_if n) ≡ is_none n
 none-of zero = refl
 none-of (suc n) = refl

@@ -96,6 +96,7 @@ pub record TapeRun : Type 0 where
   pub rises : ℕ
   pub given : tapes.Given
 
+-- the record of these counts and of what was handed over
 abbrev pub tape_run : ℕ → ℕ → tapes.Given → TapeRun
 tape_run faults rises given = record { faults = faults; rises = rises; given = given }
 

@@ -68,9 +68,11 @@ module _ (how : Stepping) (horizon : ℕ) (bytes text : List ℕ) (task : Parts)
 abbrev pub TellsModel : Stepping → ℕ → List ℕ → List ℕ → Parts → Type 0
 TellsModel how horizon bytes text task = OfGrounded task (IsModelTold how horizon bytes text task)
 
+-- the values that the bytes tell leave a clause of the formula untrue, and the text tells the first
 abbrev pub TellsNoModel : Stepping → ℕ → List ℕ → List ℕ → Parts → Type 0
 TellsNoModel how horizon bytes text task = OfGrounded task (IsNoModelTold how horizon bytes text task)
 
+-- the bytes are no text of a model, and the text tells where
 abbrev pub TellsNoText : Stepping → ℕ → List ℕ → List ℕ → Parts → Type 0
 TellsNoText how horizon bytes text task = OfGrounded task (IsNoTextTold how horizon bytes text task)
 

@@ -11,6 +11,7 @@ use Rattle.pd_sexp.specs.declared.reader.Place.{Place}
 use Rattle.pd_sexp.specs.declared.reader.Place.TheVariants.{Before, Inside, After}
 use Rattle.pd_sexp.specs.Lexer.{Standing, gap, comment, word}
 
+-- an open list of the program as that of the definitions
 abbrev pub frame_of : Frame → at.Frame
 frame_of frame = record { at = frame.at; items = map view frame.items.items }
 
@@ -18,16 +19,19 @@ frame_of frame = record { at = frame.at; items = map view frame.items.items }
 abbrev pub outer_of : List Frame → List at.Frame
 outer_of frames = reverse (map frame_of frames)
 
+-- the place of the program as that of the definitions
 abbrev pub place_of : Place → at.Frame → List at.Frame → at.Place
 place_of Before frame outer = at.before
 place_of Inside frame outer = at.inside frame outer
 place_of After frame outer = at.after frame
 
+-- the state that a lexer and a place stand for
 abbrev pub state_from : Standing → Place → at.Frame → List at.Frame → at.State
 state_from gap place frame outer = at.gap (place_of place frame outer)
 state_from comment place frame outer = at.comment (place_of place frame outer)
 state_from (word start letters) place frame outer = at.word frame outer start letters
 
+-- the state that a reader stands for
 abbrev pub state_of : Reader → at.State
 state_of r = state_from r.lexer r.place (frame_of r.frame) (outer_of r.outer.items)
 

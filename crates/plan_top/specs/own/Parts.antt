@@ -70,6 +70,7 @@ abbrev pub IsRunOf : (domain problem : Option (List ℕ)) → Run → Type 0
 IsRunOf (Some first) (Some second) run = AreTask first second run.ready.task × IsReady run.ready.task run.ready.grounded × IsKnown run.ready.grounded.task run.known
 IsRunOf _ _ run = ⊥
 
+-- what stands for a problem before the races: its ending, or a race that is ready
 abbrev pub IsPart : (domain problem : Option (List ℕ)) → Part → Type 0
 IsPart domain problem (parts.Ends end) = EndsAlone domain problem end
 IsPart domain problem (parts.Runs run) = IsRunOf domain problem run

@@ -45,6 +45,7 @@ runs_at (phases.Between racing) = []
 runs_at (phases.Within round) = polls_of round.works.items
 runs_at phases.Given = []
 
+-- the end of the race was handed out
 abbrev pub is_given : Phase → Bool
 is_given (phases.Between racing) = false
 is_given (phases.Within round) = false

@@ -15,6 +15,7 @@ at_targets (w ∷ ws) = elim w.poll.run [ Some r ↦ moved_to r w.poll.target �
 abbrev pub IsAtWork : ℕ → Work → Type 0
 IsAtWork slice w = IsSomeAnd w.poll.run (λ r. (w.before ≤ r.granted) × (r.granted ≤ w.poll.target)) × (w.poll.target ≤ 1073741824) × (w.poll.slice ≡ slice)
 
+-- each run of the round is on its way to its target, by polls of this slice
 abbrev pub AreAtWork : ℕ → List Work → Type 0
 AreAtWork slice ws = AllByRecursion (IsAtWork slice) ws
 

@@ -35,6 +35,7 @@ module _ {F A : Type 0} where
   slot_left polls_left (Done x) = 0
   slot_left polls_left Gone = 0
 
+  -- how many polls are left of all futures together
   abbrev pub slots_left : (F → ℕ) → List (MaybeDone F A) → ℕ
   slots_left polls_left [] = 0
   slots_left polls_left (s ∷ ss) = slot_left polls_left s + slots_left polls_left ss

@@ -16,6 +16,7 @@ abbrev pub entry_bytes : Entry → List ℕ
 entry_bytes (Learn clause hints) = hint_bytes hints
 entry_bytes (Drop number) = bytes_of (2 * number + 1)
 
+-- the bytes of the entries, one after another
 abbrev pub log_bytes : List Entry → List ℕ
 log_bytes [] = []
 log_bytes (entry ∷ log) = entry_bytes entry ++ log_bytes log
@@ -25,6 +26,7 @@ abbrev pub first_clause : List (List ℕ) → List ℕ
 first_clause [] = []
 first_clause (clause ∷ others) = clause
 
+-- the clauses after the first
 abbrev pub other_clauses : List (List ℕ) → List (List ℕ)
 other_clauses [] = []
 other_clauses (clause ∷ others) = others
@@ -57,6 +59,7 @@ abbrev pub IsSmall : Entry → Type 0
 IsSmall (Learn clause hints) = IsClause clause × AreFew hints
 IsSmall (Drop number) = number < 2 ^ 32
 
+-- each entry has numbers that fit their types, and learns a clause
 abbrev pub AreSmall : List Entry → Type 0
 AreSmall [] = Unit {0}
 AreSmall (entry ∷ log) = IsSmall entry × AreSmall log

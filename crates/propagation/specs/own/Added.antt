@@ -21,6 +21,7 @@ pub record HasSlotRoom (slot : ℕ) (l : Lists) : Type 0 where
   pub in_nodes : 2 * slot + 1 < length l.chains.nodes.items
   pub in_froms : slot < length l.froms.items
 
+-- the tables have room for a clause with this number in this slot
 pub record HasRoom (number slot : ℕ) (l : Lists) : Type 0 where
   pub in_numbers : number < 64 * length l.pending.numbers
   pub in_asks : number < length l.pending.asks.items

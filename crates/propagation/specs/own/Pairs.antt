@@ -39,6 +39,7 @@ pub record AreAllPairsOf (clauses : List (List ℕ)) (code : ℕ) (lists : Lists
   pub next : ArePairsOf clauses code lists.next
   pub time : ArePairsOf clauses code lists.time
 
+-- the clauses of the three lists of steps and times are in the set where they may be pending
 pub record AreAllMarked (trail : List ℕ) (lists : ListsView) (p : Pending) : Type 0 where
   pub last : AreMarked trail lists.last p
   pub next : AreMarked trail lists.next p

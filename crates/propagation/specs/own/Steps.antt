@@ -10,6 +10,7 @@ pub record IsPlaced (before steps size step number : ℕ) : Type 0 where
   pub first : before + step * size ≤ number
   pub last : number < before + step * size + size
 
+-- each of the first slots has a clause of the step that is noted for it
 abbrev pub ArePlaced : (before steps size : ℕ) → List ℕ → List ℕ → Type 0
 ArePlaced before steps size of_slots slots = (s : ℕ) → s < length of_slots → IsPlaced before steps size (slice_index of_slots s) (slice_index slots s)
 

@@ -9,9 +9,11 @@ use Rattle.propagation.specs.own.Visit.{IsFit, slot_clauses, slot_flags, AreSlot
 abbrev pub clauses_in : Tables → List (List ℕ)
 clauses_in t = slot_clauses t.store t.slots.items
 
+-- which of the clauses of the slots are kept
 abbrev pub flags_in : Tables → List Bool
 flags_in t = slot_flags t.kept.items t.slots.items
 
+-- a clause is kept and pending
 abbrev pub pending_in : Tables → List ℕ → ℕ → Bool
 pending_in t trail = is_pending_on t.store t.kept.items trail
 

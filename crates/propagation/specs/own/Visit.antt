@@ -18,9 +18,11 @@ use Rattle.cdcl_defs.specs.Pending.{is_pending}
 abbrev pub slot_clauses : List (List ℕ) → List ℕ → List (List ℕ)
 slot_clauses clauses slots = map (λ n. clause_at clauses n) slots
 
+-- for each slot whether its clause is kept
 abbrev pub slot_flags : List Bool → List ℕ → List Bool
 slot_flags kept slots = map (λ n. slice_index_or kept n false) slots
 
+-- the clause of a slot is in a set of clauses
 abbrev pub slot_set : (ℕ → Bool) → List ℕ → ℕ → Bool
 slot_set set slots s = set (slice_index slots s)
 

@@ -27,6 +27,7 @@ abbrev pub word_front : List ℕ → List ℕ
 word_front [] = []
 word_front (b ∷ bytes) = if is_blank b then [] else b ∷ word_front bytes
 
+-- the text from its first blank on
 abbrev pub after_word : List ℕ → List ℕ
 after_word [] = []
 after_word (b ∷ bytes) = if is_blank b then b ∷ bytes else after_word bytes

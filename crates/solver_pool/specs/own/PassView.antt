@@ -16,6 +16,7 @@ worker_view book = record { owner = false; ended = false; out = 0; book = book; 
 abbrev pub ended_view : {R : Type 0} → PassView R
 ended_view = record { owner = false; ended = true; out = 0; book = []; put = []; took = [] }
 
+-- a note of a key and of the units that its run had been granted
 abbrev pub note : ℕ → ℕ → Note
 note key granted = record { key = key; granted = granted }
 
@@ -23,6 +24,7 @@ note key granted = record { key = key; granted = granted }
 abbrev pub with_put : {R : Type 0} → PassView R → Note → PassView R
 with_put v n = record v { put = v.put ++ n ∷ [] }
 
+-- a pass with one take noted
 abbrev pub with_take : {R : Type 0} → PassView R → Note → PassView R
 with_take v n = record v { took = v.took ++ n ∷ [] }
 
@@ -34,6 +36,7 @@ with_entry v e = record v { book = v.book ++ e ∷ [] }
 abbrev pub with_pass_out : {R : Type 0} → PassView R → PassView R
 with_pass_out v = record v { out = v.out + 1 }
 
+-- the owner's pass once another one was taken in, with its notes
 abbrev pub with_pass_in : {R : Type 0} → PassView R → PassView R → PassView R
 with_pass_in v u = record v { out = v.out - 1; put = v.put ++ u.put; took = v.took ++ u.took }
 

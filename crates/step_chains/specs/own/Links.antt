@@ -9,12 +9,15 @@ use Rattle.step_chains.specs.declared.link.Link.{Link}
 
 -- the definitions of a chain, with links as its members
 
+-- how many variables the chain of these links has
 abbrev pub link_count : Bool → List Link → ℕ
 link_count seen ks = chain_length (λ k. k.takes) (λ k. k.reads) seen ks
 
+-- the clauses by which takers enter the chain of these links
 abbrev pub enter_links : (act var : ℕ → ℕ) → Bool → ℕ → List Link → List (List Literal)
 enter_links act var seen i ks = enter_clauses (λ k. act k.action) var (λ k. k.takes) (λ k. k.reads) seen i ks
 
+-- the clauses by which the chain of these links is passed on
 abbrev pub pass_links : (act var : ℕ → ℕ) → Bool → ℕ → List Link → List (List Literal)
 pass_links act var seen i ks = pass_clauses (λ k. act k.action) var (λ k. k.takes) (λ k. k.reads) seen i ks
 

@@ -9,6 +9,7 @@ use Rattle.step_chains.specs.declared.link.Link.{Link}
 abbrev pub link_of : Task → ℕ → ℕ → Link
 link_of task m a = record { action = a; takes = takes task m a; reads = reads task m a }
 
+-- a member takes the literal or reads it
 abbrev pub touches : Link → Bool
 touches k = k.takes || k.reads
 

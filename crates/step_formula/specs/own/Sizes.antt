@@ -28,6 +28,7 @@ result_size adds sure e = if e.literal % 2 == 0 then 2 else if sure && not (is_c
 abbrev pub adds_of : List Effect → ℕ → ℕ
 adds_of es l = count_by (λ d. d.literal == l) es
 
+-- an effect without condition has this literal
 abbrev pub adds_surely : List Effect → ℕ → Bool
 adds_surely es l = list_any (λ d. (d.literal == l) && not (is_conditional d)) es
 

@@ -33,14 +33,18 @@ SequenceHasPlan is_plan =
 
 -- The laws of step plans, whose chains go over each component.
 
+-- a satisfying assignment stands for a step plan
 abbrev pub SatisfyingIsPlan : Type 0
 SatisfyingIsPlan = SatisfyingStandsForPlan IsPlanOf places_of
 
+-- a step plan gives a satisfying assignment
 abbrev pub PlanIsSatisfying : Type 0
 PlanIsSatisfying = PlanHasSatisfying IsPlanOf places_of
 
+-- where no assignment satisfies the formula there is no step plan
 abbrev pub UnsatisfiableIsNoPlan : Type 0
 UnsatisfiableIsNoPlan = UnsatisfiableHasNoPlan IsPlanOf places_of
 
+-- at most n actions in sequence are a step plan of n steps
 abbrev pub SequenceIsPlan : Type 0
 SequenceIsPlan = SequenceHasPlan IsPlanOf

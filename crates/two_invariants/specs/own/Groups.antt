@@ -25,6 +25,7 @@ pub record GroupFits (size : ℕ) (g : Group) : Type 0 where
 
 -- What an action breaks, where a test finds its effects.
 
+-- an effect may take a literal under a condition that gives this set
 abbrev pub may_take_by : ℕ → (ℕ → (List ℕ → Bool) → Bool) → (ℕ → Bool) → ℕ → Bool
 may_take_by facts has set l = has_no_pair facts set && not (is_add l && has l (list_all set))
 
@@ -32,6 +33,7 @@ may_take_by facts has set l = has_no_pair facts set && not (is_add l && has l (l
 abbrev pub may_lose : ℕ → List (List ℕ) → (ℕ → (List ℕ → Bool) → Bool) → (ℕ → Bool) → ℕ → Bool
 may_lose facts rows has set l = has (opposite l) (λ c. may_take_by facts has (with_more rows set c) l)
 
+-- a literal surely holds after the action
 abbrev pub is_sure_by : ℕ → List (List ℕ) → (ℕ → (List ℕ → Bool) → Bool) → (ℕ → Bool) → ℕ → Bool
 is_sure_by facts rows has set m = (set m || has m (list_all set)) && not (may_lose facts rows has set m)
 

@@ -6,14 +6,17 @@ use Rattle.two_invariants.specs.declared.by_literal.ByLiteral.{ByLiteral}
 
 -- Numbers by key, in lists. Keys that leave one rest by the count of lists share a list.
 
+-- the numbers of a list by its place
 abbrev pub numbers_at : List (Vec ℕ) → ℕ → List ℕ
 numbers_at [] k = []
 numbers_at (v ∷ vs) zero = v.items
 numbers_at (v ∷ vs) (suc k) = numbers_at vs k
 
+-- the numbers of the list in which a key's stand
 abbrev pub numbers_for : List (Vec ℕ) → ℕ → List ℕ
 numbers_for lists key = numbers_at lists (key % length lists)
 
+-- a number is listed for a key
 abbrev pub has_number : List (Vec ℕ) → ℕ → ℕ → Bool
 has_number lists key n = list_any (λ k. k == n) (numbers_for lists key)
 

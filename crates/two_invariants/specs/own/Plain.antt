@@ -6,6 +6,7 @@ use Rattle.implied_literals.specs.Breaks.{is_add}
 
 -- What effects without condition do, where a set is known.
 
+-- some effect has this literal
 abbrev pub adds_plainly : List Effect → ℕ → Bool
 adds_plainly effects m = list_any (λ e. e.literal == m) effects
 
@@ -17,6 +18,7 @@ has_opposite effects m = list_any (λ e. opposite e.literal == m) effects
 abbrev pub takes_plainly : (ℕ → Bool) → List Effect → ℕ → Bool
 takes_plainly given effects m = list_any (λ e. (opposite e.literal == m) && not (is_add m && given m)) effects
 
+-- such effects break the clause of two literals
 abbrev pub breaks_plainly : (ℕ → Bool) → List Effect → ℕ → ℕ → Bool
 breaks_plainly set effects l m =
     takes_plainly (adds_plainly effects) effects l
