@@ -10,7 +10,7 @@ pub use Rattle.plan_tasks.specs.ToldPlans.{PlanRunsIn}
 use Rattle.lrat_judge.specs.Verdicts.{verdict_of}
 use Rattle.lrat_judge.specs.declared.verdict.Verdict.{Verdict}
 use Rattle.lrat_judge.specs.declared.verdict.Verdict.TheVariants.{Refuted, Rejected, NotEmpty, Syntax}
-use Rattle.judge_top.specs.own.Ended.{text_of}
+use Rattle.judge_top.specs.Ended.{text_of}
 use Rattle.judge_top.specs.declared.ended.Ended.TheVariants.{Plain, NoModel, NoText}
 use Rattle.plan_endings.specs.declared.ending.Ending.{Ending}
 use Rattle.grounding_defs.specs.Grounded.{Grounded}
@@ -20,7 +20,7 @@ use Rattle.sat_text.specs.FirstFalse.{IsFirstFalse}
 use Rattle.sat_text.specs.Values.{NoText as no_text, Values as values_read, model_of}
 use Rattle.clause_base.specs.Formula.{IsModel, assignment_of}
 use Rattle.step_laws.specs.Form.{steps_at}
-use Rattle.judge_top.specs.own.Answers.{word_of, ended_by}
+use Rattle.judge_top.specs.Answers.{word_of, ended_by}
 
 -- the task has no step plan of so many steps, nor of fewer, and no plan of at most so many actions
 abbrev pub IsProvedNone : Stepping → ℕ → Parts → Type 0

@@ -1,7 +1,7 @@
 -- The task of a gripper: a robot with two grippers that carries balls from one room to another.
 use Rattle.std.specs.Prelude.{ℕ, List, ◌++◌, codes}
-use Rattle.plan_gen.specs.own.Numbered.{numbered}
-use Rattle.plan_gen.specs.own.Head.{head}
+use Rattle.plan_gen.specs.Numbered.{numbered}
+use Rattle.plan_gen.specs.Head.{head}
 
 -- The domain, the same for every number.
 abbrev pub gripper_domain : List ℕ

@@ -6,7 +6,7 @@ use Rattle.pd_words.specs.declared.named.Named.{Named}
 use Rattle.pd_plan.specs.declared.lists.WordList.{WordList}
 use Rattle.pd_plan.specs.Fault.{Fault, syntax}
 use Rattle.pd_words.specs.First.{◌>>=◌}
-use Rattle.pd_plan.specs.own.Tokens.{Token, opening, closing, word, wrong, tokens}
+use Rattle.pd_plan.specs.Tokens.{Token, opening, closing, word, wrong, tokens}
 
 -- the list that opens at this offset
 abbrev pub word_list : ℕ → List Named → WordList

@@ -11,7 +11,7 @@ use Rattle.pd_words.specs.Words.{head_of}
 use Rattle.pd_words.specs.Typed.{Variables, variable_list}
 use Rattle.pd_words.specs.First.{◌>>=◌, found}
 use Rattle.pd_words.specs.Items.{no_more}
-use Rattle.pd_task.specs.own.Atoms.{Names, one_of, atom, condition}
+use Rattle.pd_task.specs.Atoms.{Names, one_of, atom, condition}
 
 -- Where an effect stands: the names in scope, the types of the variables of each `forall` round it, and
 -- the condition of the `when` round it.

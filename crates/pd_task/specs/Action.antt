@@ -12,8 +12,8 @@ use Rattle.pd_words.specs.Typed.{variable_list}
 use Rattle.pd_words.specs.First.{◌>>=◌, wants}
 use Rattle.pd_task.specs.declared.action.Key.{Key}
 use Rattle.pd_task.specs.declared.action.Key.TheVariants as key
-use Rattle.pd_task.specs.own.Atoms.{Names, condition}
-use Rattle.pd_task.specs.own.Effects.{effect}
+use Rattle.pd_task.specs.Atoms.{Names, condition}
+use Rattle.pd_task.specs.Effects.{effect}
 
 -- the key that a word is
 abbrev pub key_of : Tree → Result Key Fault

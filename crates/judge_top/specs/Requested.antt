@@ -4,8 +4,8 @@ use Rattle.clap.specs.Walk.{Text}
 use Rattle.clap.specs.Simple.{matches_of}
 use Rattle.clap.specs.Takes.{takes}
 use Rattle.judge_top.specs.declared.command.Name.{Name}
-use Rattle.judge_top.specs.own.Command.{command_of, steps_list, named}
-use Rattle.judge_top.specs.own.Seen.{Seen, seen_in}
+use Rattle.judge_top.specs.Command.{command_of, steps_list, named}
+use Rattle.judge_top.specs.Seen.{Seen, seen_in}
 
 -- What a command's words ask for: what its matches give, where it takes the words.
 abbrev pub requested_of : Name → List Text → Option Seen

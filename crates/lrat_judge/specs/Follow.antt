@@ -6,7 +6,7 @@ use Rattle.clause_base.specs.Formula.{Cnf}
 use Rattle.clause_base.specs.Derivation.{is_derived_after}
 use Rattle.clause_base.specs.declared.log.Entry.{Entry}
 use Rattle.clause_base.specs.declared.log.Entry.TheVariants.{Learn, Drop}
-use Rattle.lrat_judge.specs.own.Ids.{place_of}
+use Rattle.lrat_judge.specs.Ids.{place_of}
 use Rattle.sat_text.specs.LratLine.{LineView, codes_of, plain_ids, is_foreign}
 
 -- what is known after some lines: the ids of the clauses, the formula's first, and then of those that were added, and the entries so far

@@ -6,11 +6,11 @@ use Rattle.requests.specs.declared.request.Stepping.{Stepping}
 use Rattle.input_files.specs.Limits.{file_at}
 use Rattle.input_files.specs.Files.{StopsFrom, RoseAmong}
 use Rattle.plan_endings.specs.declared.ending.Ending.{Ending}
-use Rattle.judge_top.specs.own.Seen.{Seen, formulas, judges, models, domain_of, problem_of}
-use Rattle.judge_top.specs.own.Requested.{requested}
+use Rattle.judge_top.specs.Seen.{Seen, formulas, judges, models, domain_of, problem_of}
+use Rattle.judge_top.specs.Requested.{requested}
 use Rattle.judge_top.specs.declared.ended.Ended.{Ended}
 use Rattle.judge_top.specs.declared.ended.Ended.TheVariants.{Plain, Unread, Usage}
-use Rattle.judge_top.specs.own.Answers.{TapeRun, OnceReady, AnswersFormula, AnswersJudge, AnswersModel, IsUnread}
+use Rattle.judge_top.specs.Answers.{TapeRun, OnceReady, AnswersFormula, AnswersJudge, AnswersModel, IsUnread}
 
 -- the names of the domain and of the problem
 abbrev pub two_of : Seen → List (List ℕ)

@@ -17,7 +17,7 @@ use Rattle.pd_words.specs.Names.{number_of, is_among}
 use Rattle.pd_words.specs.Typed.{type_of, typed_from, object, arity}
 use Rattle.pd_words.specs.First.{◌>>=◌, found, wants, every}
 use Rattle.pd_words.specs.Items.{place_of, name_at}
-use Rattle.pd_task.specs.own.Atoms.{Names, count, one_of, predicate}
+use Rattle.pd_task.specs.Atoms.{Names, count, one_of, predicate}
 
 -- ---- objects
 

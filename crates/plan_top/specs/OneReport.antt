@@ -8,7 +8,7 @@ use Rattle.requests.specs.declared.request.Show.{Show}
 use Rattle.requests.specs.declared.request.Stepping.{Stepping}
 use Rattle.requests.specs.declared.request.Turns.{Turns}
 use Rattle.requests.specs.Requested.{requested}
-use Rattle.plan_top.specs.own.Causes.{Comes, HasRead}
+use Rattle.plan_top.specs.Causes.{Comes, HasRead}
 use Rattle.plan_endings.specs.declared.ending.Ending.{Ending}
 
 -- numbers that are the same but for the slice and the workers

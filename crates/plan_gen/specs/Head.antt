@@ -1,6 +1,6 @@
 -- The head of a problem.
 use Rattle.std.specs.Prelude.{ℕ, List, [], ◌++◌, codes, decimal}
-use Rattle.plan_gen.specs.own.Numbered.{numbered}
+use Rattle.plan_gen.specs.Numbered.{numbered}
 
 -- The problem's name, which is the domain's with a number, and the domain's.
 abbrev pub names : (name : List ℕ) (number : ℕ) → List ℕ

@@ -1,6 +1,6 @@
 -- The task of a corridor: rooms in a row, and a walk from the first to the last.
 use Rattle.std.specs.Prelude.{ℕ, ◌+◌, List, [], ◌++◌, codes, decimal, zero, suc}
-use Rattle.plan_gen.specs.own.Head.{head}
+use Rattle.plan_gen.specs.Head.{head}
 
 -- The domain, the same for every number.
 abbrev pub corridor_domain : List ℕ
