@@ -8,7 +8,7 @@ use crate::lines::{Out, keep};
 use crate::logs::put_answer;
 use clause_base::clause::Clause;
 use clause_base::literal::Lit;
-use clause_log::log::Log;
+use proof_log::log::Log;
 
 /// How many entries the log has.
 const ENTRIES: u32 = 400_000;

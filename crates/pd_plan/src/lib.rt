@@ -2,14 +2,14 @@
 //!
 //! A plan file is a sequence of lists `(name object ..)`, with blanks and comments between the tokens, as in
 //! a domain or a problem. Other lines than calls are comments, so that a planner's report is a plan file.
-//! `specs/WordLists.antt` says which lists of words the bytes are, `specs/PlanFile.antt` which calls these
+//! `specs/own/WordLists.antt` says which lists of words the bytes are, `specs/PlanFile.antt` which calls these
 //! spell, and which fault comes first.
 #![tactic(auto)]
 
 ghost use Rattle.std.specs.Prelude.{◌≤◌, ◌<◌, ◌^◌, ℕ, IfOk, IsTrue, length};
 ghost use Rattle.std.specs.List.{list_all};
 ghost use Rattle.pd_model.specs.Fits.{is_call};
-ghost use Rattle.pd_plan.specs.Answers.{Gives};
+ghost use Rattle.pd_plan.specs.own.Answers.{Gives};
 ghost use Rattle.pd_plan.specs.PlanFile.{plan_file};
 
 mod calls;
