@@ -148,25 +148,3 @@ run_kept() {
     run_program "$@" >"$room/report"
     show_report
 }
-
-# begin_plan_file: no plan of an earlier run is left, and a new one can be written there.
-begin_plan_file() {
-    leftover=$plan_file.$$
-    if [ ! -d "$plan_file" ] && rm -f -- "$plan_file" && : >"$leftover"; then
-        return
-    fi 2>/dev/null
-    say "the plan cannot be written to $plan_file"
-    exit 6
-}
-
-# end_plan_file: after status 0 the calls of the report, whole, else nothing.
-end_plan_file() {
-    if [ "$status" = 0 ]; then
-        if ! { grep '^(' "$room/report" || [ $? = 1 ]; } >"$leftover" 2>/dev/null || ! mv -f -- "$leftover" "$plan_file"; then
-            say "the plan could not be written to $plan_file"
-            status=6
-        fi
-    fi
-    rm -f -- "$leftover"
-    leftover=''
-}

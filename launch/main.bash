@@ -2,7 +2,7 @@
 # main.bash ROOT ENDED WORD..: answers the words of a call of the planner; ENDED is nothing, or STATUS:SECONDS of the program that
 # has run on them already.
 # What the environment may have set otherwise, also that functions within one another are left out.
-set +ef -u
+set +efC -u
 unset -v FUNCNEST
 shopt -s nullglob
 
@@ -19,7 +19,7 @@ use programs commands watch
 # run_words: runs the program on the words.
 run_words() {
     [ -z "$plan_file$seconds" ] || use clock words
-    [ -z "$plan_file" ] || begin_plan_file
+    [ -z "$plan_file" ] || begin_plan_file "${words[@]}"
     if [ -n "$seconds" ]; then
         run_by_clock "${words[@]}"
     elif [ -n "$plan_file" ]; then
@@ -82,10 +82,11 @@ if [[ $by != *_prog ]]; then
 fi
 words=("$@") memory='' seconds='' plan_file=''
 if [[ " $*" == *' --memory'* || " $*" == *' --seconds'* || " $*" == *' --plan-file'* ]]; then
-    use own
+    use own fresh plan_file
     take_own "$@"
+    [ -z "$plan_file" ] || see_plan_file "${words[@]}"
 fi
-find_or_build "$by" || exit
+find_or_build "${by:-plan_prog}" || exit
 SECONDS=0
 if [ -n "$ended" ]; then
     status=${ended%:*} SECONDS=${ended#*:}

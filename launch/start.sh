@@ -82,4 +82,5 @@ if is_plain "$@" && is_ready && can_hand_on; then
     find_uptime
     ended=$status:$((uptime - begun))
 fi
-exec bash "$root/launch/main.bash" "$root" "$ended" "$@"
+# Options of bash that the environment hands on change no script here.
+exec env -u SHELLOPTS -u BASHOPTS bash "$root/launch/main.bash" "$root" "$ended" "$@"

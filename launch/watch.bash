@@ -24,18 +24,19 @@ end_all() {
     # shellcheck disable=SC2086 # numbers, or nothing
     [ -z "$running$watcher$timer" ] || wait $running $watcher $timer
     running='' watcher='' timer=''
-    [ -z "$leftover" ] || rm -f -- "$leftover"
+    [ -z "$leftover" ] || drop_fresh "$leftover"
     [ -z "$room" ] || rm -rf -- "$room"
 } 2>/dev/null
 
 # start_program WORD..: starts the program in the background, with this process's standard input, within the memory that was
-# asked for. Where the system can do that, it ends with this process, whatever ends that.
+# asked for. The limit is on data, and not on the address space: within that the main stack could not grow, and a run that had
+# memory left would end by a signal. Where the system can do that, it ends with this process, whatever ends that.
 start_program() {
     local tie=()
     [ "$tied" != yes ] || tie=(setpriv --pdeathsig KILL)
     if [ -n "$memory" ]; then
         # Where the system allows less, that is what there is.
-        (ulimit -v $((memory * 1024)) 2>/dev/null; exec "${tie[@]}" "$program" "$@") <&0 &
+        (ulimit -d $((memory * 1024)) 2>/dev/null; exec "${tie[@]}" "$program" "$@") <&0 &
     else
         "${tie[@]}" "$program" "$@" <&0 &
     fi

@@ -1,9 +1,10 @@
 """The making of a quick program of these sources with wrong bodies beside the right functions."""
 import json, pathlib, re, shutil, subprocess, tempfile
 
-from bodies import ABSENT, ROOT, edited, pairs, places
+from bodies import ROOT, edited, places
 from combined import MAINS, ROOT_CRATE, TESTS, WAITS, combine
 from variants import Module, Program, compiled, linked, same_numbers
+from wrong_bodies import ABSENT
 
 PARTS = 4
 REFUSED = re.compile(r"crates/(\w+)/(src/[\w/]+\.rt):(\d+):\d+: error")
@@ -24,15 +25,15 @@ def below(program):
             left += lines[name]
     return found
 
-def is_code(crate, edit):
-    """Whether an edit can be made, and changes code."""
-    return not edited(crate, [edit])[1] and any(it[0].startswith("src/") for it in pairs(edit.read_text()))
+def is_code(body):
+    """Whether a body can be made, and changes code."""
+    return not edited(body.crate, [body])[1] and any(it[0].startswith("src/") for it in body.pairs())
 
 def batches(bodies):
     """The bodies in lists of which each is made in one module: no two of a list change functions of one name, or one text."""
     made = []
     for key, edit in bodies.items():
-        spots = {(key[0], it.name) for it in places(key[0], edit)} or {(key[0],)}
+        spots = {(key[0], it.name) for it in places(edit)} or {(key[0],)}
         fits = next((it for it in made if goes_with(it, key, edit, spots)), None)
         if fits:
             fits[0][key] = edit
@@ -72,7 +73,7 @@ def built(edits):
 
 def is_of(symbol, key, edit):
     """Whether a function of a module is one that a body changes, or stands in it; any of its crate where it changes more than functions."""
-    here, crate = places(key[0], edit), stands_as(key[0])
+    here, crate = places(edit), stands_as(key[0])
     return any(re.match(rf'"?{crate}::(.*::)?{it.name}(::|\+|<|"|$)', symbol) for it in here) if here else is_in(symbol, crate)
 
 def stands_as(crate):
@@ -131,7 +132,7 @@ def refuses(key, edits, said):
     """Whether the compiler refuses what a body puts in, or a line beside it."""
     texts = edited(key[0], [edit for other, edit in edits.items() if other[0] == key[0]])[0]
     for crate, file, line in REFUSED.findall(said):
-        for name, _, new in pairs(edits[key].read_text()):
+        for name, _, new in edits[key].pairs():
             if (crate, file) == (key[0], name) and new in texts[file]:
                 first = texts[file][: texts[file].index(new)].count("\n")
                 if first <= int(line) <= first + new.count("\n") + 2:

@@ -10,7 +10,7 @@ use Rattle.std.specs.List.Sorted.{IsNonDecreasing}
 use Rattle.clause_base.specs.Choice.{Known}
 use Rattle.formula_defs.specs.Layout.{Layout}
 use Rattle.goal_choice.specs.Means.{Supporter, Means}
-use Rattle.goal_choice.specs.own.Walk.{has_value, least_with, lesser}
+use Rattle.goal_choice.specs.Walk.{has_value, least_with, lesser}
 use Rattle.goal_choice.specs.own.Needs.{supporter_in, supporters_in}
 use Rattle.goal_choice.specs.own.Search.{lesser_variable, least_variable, AreMarked}
 

@@ -10,7 +10,7 @@ use Rattle.clause_base.specs.Choice.{Known, same_value}
 use Rattle.formula_defs.specs.Layout.{width, variables, fact_at}
 use Rattle.formula_defs.proofs.published.LayoutLaw.{product_le}
 use Rattle.goal_choice.specs.Means.{Means, start_of}
-use Rattle.goal_choice.specs.own.Walk.{support_of, supports, walk}
+use Rattle.goal_choice.specs.Walk.{support_of, supports, walk}
 use Rattle.goal_choice.specs.own.Supports.{IsStep}
 use Rattle.goal_choice.specs.own.Members.{Literals, AreMeans, no_literals}
 use Rattle.goal_choice.specs.own.Kept.{WalkView, IsWalk, IsPassed, IsSameFrom, set_at, walked}

@@ -14,7 +14,7 @@ use Rattle.gt_core.proofs.published.Basics.{and_split}
 use Rattle.formula_defs.proofs.published.LayoutLaw.{product_le}
 use Rattle.gt_core.proofs.published.Within.{lawful, literals_within}
 use Rattle.goal_choice.specs.Means.{Supporter, variable_from, start_of}
-use Rattle.goal_choice.specs.own.Walk.{has_value, lesser, least_with}
+use Rattle.goal_choice.specs.Walk.{has_value, lesser, least_with}
 use Rattle.goal_choice.specs.own.Members.{IsWithin, AreMeans}
 
 -- what holds of all supporters holds of the least one

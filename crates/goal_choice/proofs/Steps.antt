@@ -6,7 +6,7 @@ use Rattle.containers.specs.Rising.{put}
 use Rattle.clause_base.proofs.published.ClauseLemmas.{rising-fold, list_any-fold}
 use Rattle.clause_base.proofs.published.Rising.{rising_unique}
 use Rattle.goal_choice.specs.own.Members.{Literals}
-use Rattle.goal_choice.specs.own.Walk.{Support, Chooses, Wants, both, supports, walk}
+use Rattle.goal_choice.specs.Walk.{Support, Chooses, Wants, both, supports, walk}
 use Rattle.goal_choice.specs.own.Supports.{IsStep}
 
 both_assoc : (ks ms : List ℕ) (w : Support) → both (Wants ks) (both (Wants ms) w) ≡ both (Wants (ks ++ ms)) w

@@ -9,7 +9,7 @@ use Rattle.clause_base.specs.Choice.{Known, same_value}
 use Rattle.formula_defs.specs.Layout.{Layout, width, fact_at}
 use Rattle.formula_defs.proofs.published.LayoutLaw.{product_le}
 use Rattle.goal_choice.specs.Means.{Supporter, Means, variable_from, start_of}
-use Rattle.goal_choice.specs.own.Walk.{Support, Chooses, Wants, has_value, is_value, is_false_at, lesser, least_with, support_without, support_of, both, supports}
+use Rattle.goal_choice.specs.Walk.{Support, Chooses, Wants, has_value, is_value, is_false_at, lesser, least_with, support_without, support_of, both, supports}
 use Rattle.goal_choice.specs.own.Members.{IsWithin, AreMeans}
 use Rattle.goal_choice.specs.own.Kept.{IsPassed}
 

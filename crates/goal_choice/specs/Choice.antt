@@ -4,7 +4,7 @@ use Rattle.gt_core.specs.Task.{Task}
 use Rattle.formula_defs.specs.Layout.{Layout}
 use Rattle.clause_base.specs.Choice.{Known, plain_choice}
 use Rattle.goal_choice.specs.Means.{Means, means_of}
-use Rattle.goal_choice.specs.own.Walk.{support_of, walk}
+use Rattle.goal_choice.specs.Walk.{support_of, walk}
 
 -- a choice, or else the plain one: the least variable without a value, made false
 abbrev pub or_plain : Known → Option ℕ → Option ℕ

@@ -5,7 +5,7 @@ use Rattle.containers.specs.Rising.{put}
 use Rattle.clause_base.specs.Choice.{Known, IsOpenChoice}
 use Rattle.clause_base.specs.ChoiceLaw.{plain_choice-open}
 use Rattle.goal_choice.specs.Means.{Supporter, Means, variable_from, start_of}
-use Rattle.goal_choice.specs.own.Walk.{is_value, has_value, is_false_at, lesser, least_with, Support, Chooses, Wants, support_without, support_of, both, supports, walk}
+use Rattle.goal_choice.specs.Walk.{is_value, has_value, is_false_at, lesser, least_with, Support, Chooses, Wants, support_without, support_of, both, supports, walk}
 use Rattle.goal_choice.specs.Choice.{or_plain, choice_by}
 
 -- a choice, where there is one, is of a variable without a value

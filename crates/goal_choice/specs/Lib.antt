@@ -1,4 +1,5 @@
 pub mod Means
 pub mod Choice
 pub mod ChoiceLaw
+pub mod Walk
 pub mod own

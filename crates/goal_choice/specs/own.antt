@@ -1,4 +1,3 @@
-pub mod Walk
 pub mod Members
 pub mod Supports
 pub mod Kept

@@ -2,7 +2,7 @@
 
 ghost use Rattle.std.specs.Prelude.{◌≡◌, ◌<◌, ◌/◌, ◌%◌, ◌==◌, not, length, Some};
 ghost use Rattle.formula_defs.specs.Layout.{variables};
-ghost use Rattle.goal_choice.specs.own.Walk.{is_false_at, support_of};
+ghost use Rattle.goal_choice.specs.Walk.{is_false_at, support_of};
 ghost use Rattle.goal_choice.specs.own.Supports.{meaning, WantsWithin};
 
 use crate::search::has_value;

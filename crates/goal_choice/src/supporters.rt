@@ -3,7 +3,7 @@
 ghost use Rattle.std.specs.Prelude.{◌≡◌, ◌/◌, ◌<◌, ◌≤◌, [], ◌++◌, Some, None, length, slice_index_or, IfOk, IfSome, IfNone};
 ghost use Rattle.std.specs.List.{AllByRecursion};
 ghost use Rattle.goal_choice.specs.Means.{gathered_of, variable_from};
-ghost use Rattle.goal_choice.specs.own.Walk.{least_with};
+ghost use Rattle.goal_choice.specs.Walk.{least_with};
 
 use crate::flat_lists::list_at;
 use crate::gather::{needs_by_variable, variables_by_literal};

@@ -2,7 +2,7 @@
 
 ghost use Rattle.std.specs.Prelude.{◌≡◌, ◌<◌, [], length};
 ghost use Rattle.formula_defs.specs.Layout.{variables};
-ghost use Rattle.goal_choice.specs.own.Walk.{support_of, supports};
+ghost use Rattle.goal_choice.specs.Walk.{support_of, supports};
 ghost use Rattle.goal_choice.specs.own.Supports.{IsStep};
 
 use crate::literals::Literals;

@@ -11,7 +11,7 @@ use Rattle.requests.proofs.published.ListReaders.{one_passes, norm_lists}
 use Rattle.requests.proofs.published.Ranges.{number_in}
 use Rattle.judge_top.specs.declared.command.Name.{Name}
 use Rattle.judge_top.specs.declared.command.Name.TheVariants.{Formula, Judge, Model}
-use Rattle.judge_top.specs.own.Command.{command_of, step_words, steps_list}
+use Rattle.judge_top.specs.Command.{command_of, step_words, steps_list}
 
 pub fit : (by : ValueParser) → TakesWords step_words by → (name : Name) → IsFit (command_of by name)
 fit by takes Formula = let e = one_passes step_words by (codes "exists") takes refl in record { simple = refl; leaf = refl; defaults = rw e refl; values = refl }

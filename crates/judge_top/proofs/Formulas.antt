@@ -22,7 +22,7 @@ use Rattle.input_files.specs.declared.stop.Stop.{Stop}
 use Rattle.input_files.specs.declared.stop.Stop.TheVariants.{Ends, Memory}
 use Rattle.input_files.specs.Ends.{StopsBy}
 use Rattle.judge_top.specs.declared.ended.Ended.TheVariants.{Plain}
-use Rattle.judge_top.specs.own.Answers.{TapeRun, OfKnown, IsFormula, IsTooMany, TellsTooMany, IsToldOf, IsTold, IsBelow, HasNone, word_of, IsVerdict}
+use Rattle.judge_top.specs.Answers.{TapeRun, OfKnown, IsFormula, IsTooMany, TellsTooMany, IsToldOf, IsTold, IsBelow, HasNone, word_of, IsVerdict}
 use Rattle.judge_top.specs.declared.model.Told.{Told}
 use Rattle.judge_top.specs.declared.model.Told.TheVariants as told
 use Rattle.grounding_defs.specs.Grounded.{Grounded, IsGrounded}

@@ -11,7 +11,7 @@ use Rattle.judge_top.specs.declared.ended.Ended.TheVariants.{Plain}
 use Rattle.grounding_defs.specs.Grounded.{Grounded}
 use Rattle.pd_model.specs.declared.parts.Parts.{Parts}
 use Rattle.plan_tasks.specs.Tasks.{AreTask, IsReady, StopsTask}
-use Rattle.judge_top.specs.own.Answers.{EndsWith, end_in, OnceReady, not_ready, ready}
+use Rattle.judge_top.specs.Answers.{EndsWith, end_in, OnceReady, not_ready, ready}
 
 pub weaker : (claim other : Ended → Type 0) → ((end : Ended) → claim end → other end) → (r : Result Ended Stop) → EndsWith claim r → EndsWith other r
 weaker claim other more (Ok end) h = more end h

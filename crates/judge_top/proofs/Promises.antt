@@ -31,15 +31,15 @@ use Rattle.plan_tasks.specs.PlanLaws.{PlanLaws}
 use Rattle.plan_tasks.proofs.published.TellingPlans.{model_runs}
 use Rattle.plan_tasks.proofs.published.Printing.{printed_is}
 use Rattle.plan_tasks.proofs.published.Statuses.{six_seven, six_seven_eight}
-use Rattle.judge_top.specs.own.Seen.{Seen, formulas, judges, models, domain_of, problem_of}
-use Rattle.judge_top.specs.own.Requested.{requested}
-use Rattle.judge_top.specs.own.Ended.{status_of, text_of}
+use Rattle.judge_top.specs.Seen.{Seen, formulas, judges, models, domain_of, problem_of}
+use Rattle.judge_top.specs.Requested.{requested}
+use Rattle.judge_top.specs.Ended.{status_of, text_of}
 use Rattle.judge_top.specs.declared.ended.Ended.{Ended}
 use Rattle.judge_top.specs.declared.ended.Ended.TheVariants.{Plain, Unread, Usage}
-use Rattle.judge_top.specs.own.Answers.{TapeRun, OnceReady, not_ready, ready, AnswersFormula, AnswersJudge, AnswersModel, too_large, formula, unread, judged, model, ended_by, IsUnread, TellsTooMany, word_of}
+use Rattle.judge_top.specs.Answers.{TapeRun, OnceReady, not_ready, ready, AnswersFormula, AnswersJudge, AnswersModel, too_large, formula, unread, judged, model, ended_by, IsUnread, TellsTooMany, word_of}
 use Rattle.judge_top.specs.declared.model.Told.TheVariants as tolds
-use Rattle.judge_top.specs.own.Causes.{Answers, Comes, no_request, asked, ComesFor, StopsAt, OfTaken, HasFault, names_in, two_of}
-use Rattle.judge_top.specs.own.Headline.{IsProvedNone, PlanRunsIn, TellsFormula, OfVerdict, IsAccepted, IsRejected, IsNoProof, OrNoTask, TellsModel, TellsNoModel, TellsNoText, IsModelTold, IsNoModelTold, IsNoTextTold}
+use Rattle.judge_top.specs.Causes.{Answers, Comes, no_request, asked, ComesFor, StopsAt, OfTaken, HasFault, names_in, two_of}
+use Rattle.judge_top.specs.Headline.{IsProvedNone, PlanRunsIn, TellsFormula, OfVerdict, IsAccepted, IsRejected, IsNoProof, OrNoTask, TellsModel, TellsNoModel, TellsNoText, IsModelTold, IsNoModelTold, IsNoTextTold}
 
 -- ---- statuses of what stops a run
 

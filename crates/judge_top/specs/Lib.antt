@@ -1,1 +1,7 @@
-pub mod own
+pub mod Answers
+pub mod Causes
+pub mod Command
+pub mod Ended
+pub mod Headline
+pub mod Requested
+pub mod Seen

@@ -2,7 +2,7 @@
 ghost use Rattle.std.specs.Prelude.{◌≡◌, ◌≤◌, [], length, IfOk};
 ghost use Rattle.input_files.specs.Limits.{most_bytes};
 ghost use Rattle.input_files.specs.Ends.{OnlyMemory};
-ghost use Rattle.judge_top.specs.own.Answers.{EndsWith, tape_run, OnceReady, AnswersFormula, AnswersJudge, AnswersModel, IsBelow, IsSmallTold, ended_by, ended_with};
+ghost use Rattle.judge_top.specs.Answers.{EndsWith, tape_run, OnceReady, AnswersFormula, AnswersJudge, AnswersModel, IsBelow, IsSmallTold, ended_by, ended_with};
 
 use crate::Ended;
 use crate::formula::formula_by;

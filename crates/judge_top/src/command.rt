@@ -2,7 +2,7 @@
 ghost use Rattle.std.specs.Prelude.{◌≡◌, IfOk};
 ghost use Rattle.clap.specs.Words.{app_of};
 ghost use Rattle.requests.specs.Arguments.{TakesWords};
-ghost use Rattle.judge_top.specs.own.Command.{command_of, named, step_words, word_of};
+ghost use Rattle.judge_top.specs.Command.{command_of, named, step_words, word_of};
 
 use clap::Command;
 use clap::builder::ValueParser;

@@ -3,10 +3,10 @@ ghost use Rattle.std.specs.Prelude.{◌≡◌, ◌≤◌, ℕ, List, length, map
 ghost use Rattle.pl_io.specs.Outside.{Agrees, fault_count};
 ghost use Rattle.input_files.specs.Files.{NotesAmong};
 ghost use Rattle.input_files.specs.Limits.{most_bytes};
-ghost use Rattle.judge_top.specs.own.Requested.{requested, command_named};
-ghost use Rattle.judge_top.specs.own.Seen.{seen, horizon_of};
-ghost use Rattle.judge_top.specs.own.Answers.{EndsWith, tape_run};
-ghost use Rattle.judge_top.specs.own.Causes.{Answers, OfModel, ComesFor, Comes, names_in, two_of};
+ghost use Rattle.judge_top.specs.Requested.{requested, command_named};
+ghost use Rattle.judge_top.specs.Seen.{seen, horizon_of};
+ghost use Rattle.judge_top.specs.Answers.{EndsWith, tape_run};
+ghost use Rattle.judge_top.specs.Causes.{Answers, OfModel, ComesFor, Comes, names_in, two_of};
 
 use crate::answer::{answer_formula, answer_judge, answer_model};
 use crate::verdict::open;

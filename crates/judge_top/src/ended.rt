@@ -5,7 +5,7 @@
 //! ```
 ghost use Rattle.std.specs.Prelude.{◌≡◌, IfOk, IsOk};
 ghost use Rattle.plan_endings.specs.Ending.{bytes_of};
-ghost use Rattle.judge_top.specs.own.Ended.{status_of, text_of};
+ghost use Rattle.judge_top.specs.Ended.{status_of, text_of};
 
 use pl_io::Memory;
 use plan_endings::{Due, Ending, of_number, of_numbers};

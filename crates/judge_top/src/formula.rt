@@ -4,7 +4,7 @@ ghost use Rattle.clause_base.specs.Formula.{IsUnsatisfiable};
 ghost use Rattle.step_encoding.specs.{Limits.most_literals, Numbers.literals_of};
 ghost use Rattle.input_files.specs.Ends.{StopsBy};
 ghost use Rattle.plan_tasks.specs.Stepping.{places_by, is_plan_by};
-ghost use Rattle.judge_top.specs.own.Answers.{OfKnown, IsFormula, IsTooMany, TellsTooMany};
+ghost use Rattle.judge_top.specs.Answers.{OfKnown, IsFormula, IsTooMany, TellsTooMany};
 
 use action_order::publish::publish;
 use all_steps::form::BothWays;

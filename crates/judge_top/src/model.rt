@@ -7,7 +7,7 @@ ghost use Rattle.plan_tasks.specs.Stepping.{places_by};
 ghost use Rattle.step_encoding.specs.{Limits.most_literals, Numbers.literals_of};
 ghost use Rattle.sat_text.specs.Values.{Values as values_read, model_of};
 ghost use Rattle.sat_text.specs.Stands.{HasRead};
-ghost use Rattle.judge_top.specs.own.Answers.{TapeRun, tape_run, OfKnown, IsTold, IsToldOf, IsBelow, IsGiven, IsTooMany, TellsTooMany};
+ghost use Rattle.judge_top.specs.Answers.{TapeRun, tape_run, OfKnown, IsTold, IsToldOf, IsBelow, IsGiven, IsTooMany, TellsTooMany};
 
 use crate::formula::formula_of;
 use action_order::publish::publish;

@@ -12,8 +12,8 @@
 //! }
 //! ```
 ghost use Rattle.std.specs.Prelude.{◌≡◌, ◌≤◌, IfOk, IfSome, Ok, None, map, string_bytes, option_map};
-ghost use Rattle.judge_top.specs.own.Requested.{requested, requested_of, command_named};
-ghost use Rattle.judge_top.specs.own.Seen.{seen, horizon_of};
+ghost use Rattle.judge_top.specs.Requested.{requested, requested_of, command_named};
+ghost use Rattle.judge_top.specs.Seen.{seen, horizon_of};
 
 use crate::command::{Name, command_for, name_of, steps_reader};
 use crate::request::Request;

@@ -1,6 +1,6 @@
 //! What words can ask for.
 ghost use Rattle.std.specs.Prelude.{◌≡◌};
-ghost use Rattle.judge_top.specs.own.Seen.{seen, domain_of, problem_of};
+ghost use Rattle.judge_top.specs.Seen.{seen, domain_of, problem_of};
 
 use requests::Stepping;
 

@@ -2,7 +2,7 @@
 ghost use Rattle.std.specs.Prelude.{◌≡◌, IfOk};
 ghost use Rattle.sat_text.specs.Dimacs.{formula_text};
 ghost use Rattle.input_files.specs.Ends.{OnlyMemory};
-ghost use Rattle.judge_top.specs.own.Answers.{word_of};
+ghost use Rattle.judge_top.specs.Answers.{word_of};
 
 use clause_base::formula::Formula;
 use input_files::stop::Stop;

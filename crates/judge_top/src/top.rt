@@ -4,13 +4,13 @@ ghost use Rattle.pl_io.specs.Outside.{Agrees, appended, TakesFront, Rose, fault_
 ghost use Rattle.requests.specs.declared.request.Stepping.{Stepping};
 ghost use Rattle.input_files.specs.Files.{NotesAmong};
 ghost use Rattle.plan_tasks.specs.Claims.{Printed, OfFiles};
-ghost use Rattle.judge_top.specs.own.Requested.{requested, command_named};
-ghost use Rattle.judge_top.specs.own.Seen.{formulas, judges, models};
-ghost use Rattle.judge_top.specs.own.Ended.{status_of, text_of};
+ghost use Rattle.judge_top.specs.Requested.{requested, command_named};
+ghost use Rattle.judge_top.specs.Seen.{formulas, judges, models};
+ghost use Rattle.judge_top.specs.Ended.{status_of, text_of};
 ghost use Rattle.judge_top.specs.declared.ended.Ended.{Ended};
-ghost use Rattle.judge_top.specs.own.Answers.{end_in, tape_run};
-ghost use Rattle.judge_top.specs.own.Causes.{Comes, OfTaken, HasFault, names_in};
-ghost use Rattle.judge_top.specs.own.Headline.{IsProvedNone, PlanRunsIn, TellsFormula, OfVerdict, IsAccepted, IsRejected, IsNoProof, TellsModel, TellsNoModel, TellsNoText, OrNoTask};
+ghost use Rattle.judge_top.specs.Answers.{end_in, tape_run};
+ghost use Rattle.judge_top.specs.Causes.{Comes, OfTaken, HasFault, names_in};
+ghost use Rattle.judge_top.specs.Headline.{IsProvedNone, PlanRunsIn, TellsFormula, OfVerdict, IsAccepted, IsRejected, IsNoProof, TellsModel, TellsNoModel, TellsNoText, OrNoTask};
 
 use crate::decide::decide;
 use crate::written::written;

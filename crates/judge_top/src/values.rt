@@ -2,7 +2,7 @@
 ghost use Rattle.std.specs.Prelude.{◌≡◌, ◌≤◌, codes};
 ghost use Rattle.clap.specs.Words.{found_of, rows_of};
 ghost use Rattle.requests.specs.Passed.{HasNumber, text_at};
-ghost use Rattle.judge_top.specs.own.Seen.{seen, seen_in, steps_of, horizon_of};
+ghost use Rattle.judge_top.specs.Seen.{seen, seen_in, steps_of, horizon_of};
 
 use crate::command::Name;
 use crate::request::Request;

@@ -5,7 +5,7 @@ ghost use Rattle.pl_io.specs.Outside.{Rose};
 ghost use Rattle.pl_io.specs.Tape.{given_more};
 ghost use Rattle.lrat_judge.specs.Verdicts.{verdict_of};
 ghost use Rattle.input_files.specs.Ends.{StopsBy};
-ghost use Rattle.judge_top.specs.own.Answers.{IsUnread, stop_of};
+ghost use Rattle.judge_top.specs.Answers.{IsUnread, stop_of};
 
 use clause_base::formula::Formula;
 use input_files::stop::Stop;

@@ -1,7 +1,7 @@
 //! Writing the text of an ending of the judge.
 ghost use Rattle.std.specs.Prelude.{◌≡◌, ◌≢◌, ◌≤◌};
 ghost use Rattle.pl_io.specs.Outside.{appended, TakesFront, Rose};
-ghost use Rattle.judge_top.specs.own.Ended.{status_of, text_of};
+ghost use Rattle.judge_top.specs.Ended.{status_of, text_of};
 
 use crate::Ended;
 use pl_io::Sink;

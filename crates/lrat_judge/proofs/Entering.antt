@@ -5,7 +5,7 @@ use Rattle.std.specs.List.{list_all}
 use Rattle.std.proofs.Math.ListN.{drop_of_length-le}
 use Rattle.std.proofs.Math.Seq.{drop-cons}
 use Rattle.std.proofs.lemmas.Bool.{lt-ltb, ltb-true}
-use Rattle.lrat_judge.specs.own.Ids.{Rises}
+use Rattle.lrat_judge.specs.Ids.{Rises}
 use Rattle.clause_base.specs.Clause.{clause_of}
 use Rattle.clause_base.specs.Formula.{Cnf}
 use Rattle.clause_base.specs.Derivation.{is_derived_after}
@@ -15,7 +15,7 @@ use Rattle.containers.specs.declared.memory.Memory.{Memory}
 use Rattle.rup_check.specs.Taken.{CheckerView, HasTaken}
 use Rattle.sat_text.specs.LratLine.{LineView, codes_of, plain_ids, is_foreign}
 use Rattle.lrat_judge.specs.Judged.{counted}
-use Rattle.lrat_judge.specs.own.Follow.{Known, number_named, numbers_named, rises, with_entry, with_clause, without, follow}
+use Rattle.lrat_judge.specs.Follow.{Known, number_named, numbers_named, rises, with_entry, with_clause, without, follow}
 use Rattle.lrat_judge.specs.Reached.{Enters, StandsAt, Stands}
 
 -- ---- one entry

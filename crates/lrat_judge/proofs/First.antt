@@ -3,7 +3,7 @@ use Rattle.std.proofs.Common.{arith, ◌≡◌, ℕ, zero, suc, ◌+◌, ◌<◌
 use Rattle.std.specs.List.{slice_get}
 use Rattle.std.proofs.lemmas.Bool.Decides.{eqb_tells}
 use Rattle.std.proofs.lemmas.Option.{slice_get_within, get_or_from_slice_get}
-use Rattle.lrat_judge.specs.own.Ids.{Follow, place_of}
+use Rattle.lrat_judge.specs.Ids.{Follow, place_of}
 use Rattle.lrat_judge.proofs.Places.{ids, all_rising}
 
 -- an id that stands at no place has none

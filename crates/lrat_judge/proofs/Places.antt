@@ -6,7 +6,7 @@ use Rattle.std.proofs.lemmas.Bool.{cases_lt}
 use Rattle.std.proofs.lemmas.List.{get_or-append-add, length-append, length_push}
 use Rattle.std.proofs.lemmas.List.FromFn.{length-range_with_len, get_or-range_with_len}
 use Rattle.std.proofs.lemmas.Option.{slice_get-get_or, slice_get_within, get_or_from_slice_get}
-use Rattle.lrat_judge.specs.own.Ids.{Rises, Follow}
+use Rattle.lrat_judge.specs.Ids.{Rises, Follow}
 
 abbrev pub ids : ℕ → List ℕ → List ℕ
 ids d later = range_with_len 1 d ++ later

@@ -6,7 +6,7 @@ use Rattle.clause_base.specs.Formula.{Cnf}
 use Rattle.clause_base.specs.Derivation.{learns_empty}
 use Rattle.sat_text.specs.LratLine.{LineView, line_of}
 use Rattle.lrat_judge.specs.Judged.{Judged, counted}
-use Rattle.lrat_judge.specs.own.Follow.{Known, known_first, follow}
+use Rattle.lrat_judge.specs.Follow.{Known, known_first, follow}
 use Rattle.lrat_judge.specs.Verdicts.{Outcome, Ends, Goes, outcome_known, outcome_line, judged, whole_lines, last_part, verdict_so_far, verdict_at_end, verdict_ended, verdict_of}
 use Rattle.lrat_judge.specs.Reached.{IsBefore, Comes, HasRead, has_no_end}
 use Rattle.lrat_judge.specs.declared.verdict.Verdict.{Verdict}

@@ -8,7 +8,7 @@ use Rattle.clause_base.specs.Derivation.{learns_empty}
 use Rattle.rup_check.specs.Taken.{CheckerView, HasTaken}
 use Rattle.sat_text.specs.LratLine.{LineView, line_of}
 use Rattle.lrat_judge.specs.Judged.{Judged, counted}
-use Rattle.lrat_judge.specs.own.Follow.{Known, follow}
+use Rattle.lrat_judge.specs.Follow.{Known, follow}
 use Rattle.lrat_judge.specs.Verdicts.{Outcome, Ends, Goes, outcome_known, outcome_line}
 use Rattle.lrat_judge.specs.Reached.{Stands, Comes}
 use Rattle.lrat_judge.specs.declared.verdict.Verdict.{Verdict}

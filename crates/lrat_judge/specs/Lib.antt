@@ -1,4 +1,5 @@
 pub mod Judged
 pub mod Verdicts
 pub mod Reached
-pub mod own
+pub mod Follow
+pub mod Ids

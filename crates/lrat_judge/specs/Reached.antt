@@ -4,7 +4,7 @@ use Rattle.clause_base.specs.declared.log.Entry.{Entry}
 use Rattle.rup_check.specs.Taken.{CheckerView, HasTaken}
 use Rattle.lrat_judge.specs.Judged.{Judged, counted}
 pub use Rattle.sat_text.specs.Lines.{has_no_end}
-use Rattle.lrat_judge.specs.own.Follow.{Known, known_first}
+use Rattle.lrat_judge.specs.Follow.{Known, known_first}
 use Rattle.lrat_judge.specs.Verdicts.{Outcome, Ends, Goes, judged, whole_lines, last_part}
 use Rattle.lrat_judge.specs.declared.verdict.Verdict.{Verdict}
 use Rattle.lrat_judge.specs.declared.verdict.Verdict.TheVariants.{More}

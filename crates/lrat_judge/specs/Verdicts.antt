@@ -5,7 +5,7 @@ use Rattle.clause_base.specs.Formula.{Cnf}
 use Rattle.clause_base.specs.Derivation.{learns_empty}
 use Rattle.sat_text.specs.LratLine.{LineView, line_of}
 pub use Rattle.sat_text.specs.Lines.{whole_lines, last_part, counted}
-use Rattle.lrat_judge.specs.own.Follow.{Known, known_first, follow}
+use Rattle.lrat_judge.specs.Follow.{Known, known_first, follow}
 use Rattle.lrat_judge.specs.declared.verdict.Verdict.{Verdict}
 use Rattle.lrat_judge.specs.declared.verdict.Verdict.TheVariants.{More, Refuted, Rejected, NotEmpty, Syntax}
 

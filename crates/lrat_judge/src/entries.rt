@@ -6,7 +6,7 @@ ghost use Rattle.clause_base.specs.declared.log.Entry.TheVariants.{Learn as lear
 ghost use Rattle.sat_text.specs.LratLine.{LineView, IsHeld};
 ghost use Rattle.rup_check.specs.Taken.{HasTaken};
 ghost use Rattle.lrat_judge.specs.Judged.{HasCounted, counted};
-ghost use Rattle.lrat_judge.specs.own.Follow.{Known, number_named, numbers_named, with_entry, with_clause, without};
+ghost use Rattle.lrat_judge.specs.Follow.{Known, number_named, numbers_named, with_entry, with_clause, without};
 ghost use Rattle.lrat_judge.specs.Reached.{StandsAt, Stands, Enters};
 
 use crate::ids::IdTable;

@@ -2,7 +2,7 @@
 
 ghost use Rattle.std.specs.Prelude.{◌≡◌, ◌++◌, ◌∷◌, [], ◌<◌, ◌≤◌, ℕ, true, false, Some, length, slice_get, slice_index, IfSome, IfNone};
 ghost use Rattle.std.specs.List.{range_with_len};
-ghost use Rattle.lrat_judge.specs.own.Ids.{Rises, Follow, place_of};
+ghost use Rattle.lrat_judge.specs.Ids.{Rises, Follow, place_of};
 
 use std::alloc::{AllocError, Global};
 use std::marker::Model;
@@ -17,7 +17,7 @@ pub struct IdTable {
 impl Model for IdTable {
     ghost use Rattle.std.specs.Prelude.{List, ℕ, ◌++◌};
     ghost use Rattle.std.specs.List.{range_with_len};
-    ghost use Rattle.lrat_judge.specs.own.Ids.{Follow};
+    ghost use Rattle.lrat_judge.specs.Ids.{Follow};
 
     ghost Value = { List ℕ };
 

@@ -3,7 +3,7 @@ ghost use Rattle.std.specs.Prelude.{◌≡◌, ◌≢◌, ◌<◌, ◌+◌, ◌+
 ghost use Rattle.clause_base.specs.Formula.{IsUnsatisfiable};
 ghost use Rattle.lrat_judge.specs.Judged.{IsRefutedBy};
 ghost use Rattle.sat_text.specs.LratLine.{line_of};
-ghost use Rattle.lrat_judge.specs.own.Follow.{Known};
+ghost use Rattle.lrat_judge.specs.Follow.{Known};
 ghost use Rattle.lrat_judge.specs.Verdicts.{outcome_line, verdict_of};
 ghost use Rattle.lrat_judge.specs.Reached.{IsBefore, Comes, HasRead, has_no_end};
 

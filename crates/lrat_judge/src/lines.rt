@@ -3,7 +3,7 @@ ghost use Rattle.std.specs.Prelude.{◌≡◌, ◌+◌, ℕ, List, [], length, I
 ghost use Rattle.clause_base.specs.Formula.{IsUnsatisfiable};
 ghost use Rattle.lrat_judge.specs.Judged.{IsRefutedBy, HasCounted};
 ghost use Rattle.sat_text.specs.LratLine.{LineView, IsHeld, line_of};
-ghost use Rattle.lrat_judge.specs.own.Follow.{Known, known_first, follow};
+ghost use Rattle.lrat_judge.specs.Follow.{Known, known_first, follow};
 ghost use Rattle.lrat_judge.specs.Verdicts.{outcome_line};
 ghost use Rattle.lrat_judge.specs.Reached.{StandsAt, Stands, IsBefore, Comes};
 

@@ -11,8 +11,8 @@ use Rattle.pd_words.specs.declared.named.Named.{Named}
 use Rattle.pd_plan.specs.declared.lists.WordList.{WordList}
 use Rattle.pd_plan.specs.Fault.{Fault, syntax}
 use Rattle.pd_words.specs.First.{◌>>=◌, after, FailsWith}
-use Rattle.pd_plan.specs.own.Tokens.{Token, opening, closing, word, wrong, sign, joined, tokens}
-use Rattle.pd_plan.specs.own.WordLists.{word_list, lists, list_on, word_lists}
+use Rattle.pd_plan.specs.Tokens.{Token, opening, closing, word, wrong, sign, joined, tokens}
+use Rattle.pd_plan.specs.WordLists.{word_list, lists, list_on, word_lists}
 use Rattle.pd_plan.specs.own.Progress as at
 use Rattle.pd_plan.specs.own.Progress.{State, Place, between, inside, closed, step, from_place, answer}
 

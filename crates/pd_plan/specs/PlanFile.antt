@@ -9,7 +9,7 @@ use Rattle.pd_words.specs.declared.named.Named.{Named}
 use Rattle.pd_plan.specs.declared.lists.WordList.{WordList}
 use Rattle.pd_plan.specs.Fault.{Fault, syntax, unknown, arity, mistyped}
 use Rattle.pd_words.specs.First.{◌>>=◌, found, wants}
-use Rattle.pd_plan.specs.own.WordLists.{word_lists}
+use Rattle.pd_plan.specs.WordLists.{word_lists}
 
 -- the object that a word names, which has to fit a type
 abbrev pub argument : Parts → ℕ → Named → Result ℕ Fault

@@ -1,6 +1,4 @@
 pub mod Answers
-pub mod Tokens
-pub mod WordLists
 pub mod Names
 pub mod Spells
 pub mod Progress

@@ -1,7 +1,7 @@
 // The lists of words that a plan file is.
 ghost use Rattle.std.specs.Prelude.{◌≡◌, ◌≤◌, length};
 ghost use Rattle.pd_plan.specs.own.Answers.{GivesAs};
-ghost use Rattle.pd_plan.specs.own.WordLists.{word_lists};
+ghost use Rattle.pd_plan.specs.WordLists.{word_lists};
 
 use crate::PlanFault;
 use crate::reader::Reader;

@@ -11,8 +11,8 @@ use Rattle.pd_words.specs.declared.fault.ReadError.TheVariants as errors
 use Rattle.pd_words.specs.declared.keyword.Keyword.TheVariants as heads
 use Rattle.pd_words.specs.Words.{head_of}
 use Rattle.pd_words.specs.First.{◌>>=◌, Fails, Leaves, LeavesOr, each, fault_of}
-use Rattle.pd_task.specs.own.Atoms.{Names, condition, conditions}
-use Rattle.pd_task.specs.own.Effects.{Site, literals, all_literals, effect, all_effects}
+use Rattle.pd_task.specs.Atoms.{Names, condition, conditions}
+use Rattle.pd_task.specs.Effects.{Site, literals, all_literals, effect, all_effects}
 
 -- `all` reads items as `one` does, each with what those before it gave
 pub record IsEach {S : Type 0} (one : S → defs.Tree → Result S Fault) (all : S → defs.Trees → Result S Fault) : Type 0 where

@@ -16,7 +16,7 @@ use Rattle.pd_words.specs.First.{◌>>=◌, Fails, Gives, Leaves}
 use Rattle.pd_words.specs.Items.{no_more}
 use Rattle.pd_words.specs.Standing.{Standing}
 use Rattle.pd_task.specs.own.Scope.{site_of, opened}
-use Rattle.pd_task.specs.own.Effects.{Site, effect, quantified, quantified_body}
+use Rattle.pd_task.specs.Effects.{Site, effect, quantified, quantified_body}
 use Rattle.pd_task.specs.declared.vocabulary.Vocabulary.{Vocabulary}
 use Rattle.pd_task.proofs.Ands.{handed_on}
 

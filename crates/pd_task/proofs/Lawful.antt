@@ -24,8 +24,8 @@ use Rattle.pd_words.specs.First.{◌>>=◌, found, every, each}
 use Rattle.pd_words.specs.Items.{no_more}
 use Rattle.pd_words.proofs.published.NameLemmas.{number_below, all_append, all_push}
 use Rattle.pd_words.proofs.published.Sound.{bind_ok, wants_ok, if_ok, typed_keeps, any_tree, any_trees}
-use Rattle.pd_task.specs.own.Atoms.{Names, count, term, predicate, atom, one_of, two_of, literal, equality, denied, negation, and_one, condition, conditions}
-use Rattle.pd_task.specs.own.Effects.{Site, and_effect, removed, removal, literals, all_literals, conditional_body, conditional, under, simple, rest_of, effect, all_effects, quantified, quantified_body}
+use Rattle.pd_task.specs.Atoms.{Names, count, term, predicate, atom, one_of, two_of, literal, equality, denied, negation, and_one, condition, conditions}
+use Rattle.pd_task.specs.Effects.{Site, and_effect, removed, removal, literals, all_literals, conditional_body, conditional, under, simple, rest_of, effect, all_effects, quantified, quantified_body}
 
 -- ---- steps
 

@@ -29,11 +29,11 @@ use Rattle.pd_words.specs.Items.{no_more, place_of, name_at}
 use Rattle.pd_words.proofs.published.NameLemmas.{number_below, number_among, names_push, all_push}
 use Rattle.pd_words.proofs.published.Sound.{bind_ok, wants_ok, typed_keeps, OfWords, AllOfWords, first_words, other_words}
 use Rattle.pd_words.proofs.published.TypeLemmas.{TypesLawful, types_sound}
-use Rattle.pd_task.specs.own.Atoms.{Names, count, one_of, condition, predicate}
-use Rattle.pd_task.specs.own.Effects.{Site, effect}
-use Rattle.pd_task.specs.own.Action.{Keys, no_keys, keys_from, value_of, schema, and_action}
+use Rattle.pd_task.specs.Atoms.{Names, count, one_of, condition, predicate}
+use Rattle.pd_task.specs.Effects.{Site, effect}
+use Rattle.pd_task.specs.Action.{Keys, no_keys, keys_from, value_of, schema, and_action}
 use Rattle.pd_words.specs.Frames.{section_with, find_section, items_under, domain_frame, problem_frame}
-use Rattle.pd_task.specs.own.Declarations.{admit_object, declare, give_objects, and_objects, and_predicate, object_at, ground_atom, init_denied, and_init}
+use Rattle.pd_task.specs.Declarations.{admit_object, declare, give_objects, and_objects, and_predicate, object_at, ground_atom, init_denied, and_init}
 use Rattle.pd_task.specs.Reading.{DomainParts, names_in, and_section, domain_parts, goal_of, problem_parts}
 use Rattle.pd_task.proofs.Lawful.{Passes, bind_any, found_ok, every_sound, each_sound, total_none, total_one, Fits, predicate_sound, takes_sound, condition_sound, lawful_effect, Typed, variable_list_sound, effect_sound, good, SiteFits, type_below}
 use Rattle.pd_task.proofs.ObjectLemmas.{map_push}

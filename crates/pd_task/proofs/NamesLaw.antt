@@ -18,10 +18,10 @@ use Rattle.pd_words.specs.First.{each}
 use Rattle.pd_words.specs.Items.{place_of, name_at}
 use Rattle.pd_words.proofs.published.NameLemmas.{names_push}
 use Rattle.pd_words.proofs.published.Sound.{bind_ok, wants_ok, OfWords, AllOfWords, first_words, other_words}
-use Rattle.pd_task.specs.own.Atoms.{Names, condition}
-use Rattle.pd_task.specs.own.Effects.{effect}
-use Rattle.pd_task.specs.own.Action.{Keys, no_keys, keys_from, value_of, schema, and_action}
-use Rattle.pd_task.specs.own.Declarations.{is_free, and_predicate}
+use Rattle.pd_task.specs.Atoms.{Names, condition}
+use Rattle.pd_task.specs.Effects.{effect}
+use Rattle.pd_task.specs.Action.{Keys, no_keys, keys_from, value_of, schema, and_action}
+use Rattle.pd_task.specs.Declarations.{is_free, and_predicate}
 use Rattle.pd_words.specs.Frames.{kind_word, title, exactly, titled, sections_of, section, section_with, first_of, find_section, items_of, items_under, domain_frame, problem_frame}
 use Rattle.pd_task.specs.Reading.{and_section}
 use Rattle.pd_task.proofs.Lawful.{bind_any}

@@ -19,10 +19,10 @@ use Rattle.pd_words.specs.First.{◌>>=◌, each}
 use Rattle.pd_words.specs.Items.{no_more}
 use Rattle.pd_task.specs.declared.error.PddlError.{PddlError}
 use Rattle.pd_task.specs.declared.error.PddlError.TheVariants as errors
-use Rattle.pd_task.specs.own.Atoms.{Names, condition}
-use Rattle.pd_task.specs.own.Action.{and_action}
+use Rattle.pd_task.specs.Atoms.{Names, condition}
+use Rattle.pd_task.specs.Action.{and_action}
 use Rattle.pd_words.specs.Frames.{domain_frame, problem_frame, section_with, find_section, items_under}
-use Rattle.pd_task.specs.own.Declarations.{and_objects, and_predicate, and_init}
+use Rattle.pd_task.specs.Declarations.{and_objects, and_predicate, and_init}
 
 -- what a domain declares
 pub record DomainParts : Type 0 where

@@ -1,7 +1,3 @@
-pub mod Atoms
-pub mod Effects
-pub mod Action
-pub mod Declarations
 pub mod Scope
 pub mod Found
 pub mod Headed

@@ -3,9 +3,9 @@ ghost use Rattle.std.specs.Prelude.{◌≡◌, [], option_map, IfOk};
 ghost use Rattle.pd_sexp.specs.View.{view, views};
 ghost use Rattle.pd_words.specs.Typed as typed;
 ghost use Rattle.pd_words.specs.First.{Gives, GivesAs};
-ghost use Rattle.pd_task.specs.own.Atoms.{condition};
-ghost use Rattle.pd_task.specs.own.Effects as effects;
-ghost use Rattle.pd_task.specs.own.Action as action;
+ghost use Rattle.pd_task.specs.Atoms.{condition};
+ghost use Rattle.pd_task.specs.Effects as effects;
+ghost use Rattle.pd_task.specs.Action as action;
 ghost use Rattle.pd_task.specs.own.Scope.{names_with, site_of};
 ghost use Rattle.pd_task.specs.own.KeyValues.{keys_of};
 

@@ -5,7 +5,7 @@ ghost use Rattle.pd_model.specs.Names.{schema_names};
 ghost use Rattle.pd_words.specs.Names.{number_of};
 ghost use Rattle.pd_words.specs.declared.fault.ReadError.TheVariants as errors;
 ghost use Rattle.pd_words.specs.First.{Leaves, GivesAs, each};
-ghost use Rattle.pd_task.specs.own.Action as action;
+ghost use Rattle.pd_task.specs.Action as action;
 ghost use Rattle.pd_task.specs.Reading as reading;
 ghost use Rattle.pd_task.specs.own.Scope.{names_with};
 

@@ -6,7 +6,7 @@ ghost use Rattle.pd_model.specs.declared.objects.ObjectDecl.{ObjectDecl};
 ghost use Rattle.pd_words.specs.First.{Leaves};
 ghost use Rattle.pd_words.specs.Names.{number_of};
 ghost use Rattle.pd_words.specs.Typed as typed;
-ghost use Rattle.pd_task.specs.own.Declarations as declarations;
+ghost use Rattle.pd_task.specs.Declarations as declarations;
 
 use pd_model::ObjectDecl;
 use pd_sexp::Tree;

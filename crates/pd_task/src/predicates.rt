@@ -4,7 +4,7 @@ ghost use Rattle.pd_words.specs.Names.{number_of};
 ghost use Rattle.pd_sexp.specs.View.{view, views};
 ghost use Rattle.pd_model.specs.Names.{predicate_names, arities_of};
 ghost use Rattle.pd_words.specs.First.{GivesAs, Leaves, each};
-ghost use Rattle.pd_task.specs.own.Declarations as declarations;
+ghost use Rattle.pd_task.specs.Declarations as declarations;
 ghost use Rattle.pd_words.specs.declared.fault.ReadError.TheVariants as errors;
 
 use pd_model::Predicate;

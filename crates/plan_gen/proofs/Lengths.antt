@@ -5,9 +5,9 @@ use Rattle.std.proofs.lemmas.List.{length-append}
 use Rattle.std.proofs.lemmas.Fmt.{length-decimal-le}
 use Rattle.plan_gen.specs.declared.Kind.{Kind}
 use Rattle.plan_gen.specs.declared.Kind.TheVariants.{Corridor, Gripper}
-use Rattle.plan_gen.specs.own.Numbered.{numbered}
-use Rattle.plan_gen.specs.own.Corridor.{corridor_problem, doors}
-use Rattle.plan_gen.specs.own.Gripper.{gripper_problem}
+use Rattle.plan_gen.specs.Numbered.{numbered}
+use Rattle.plan_gen.specs.Corridor.{corridor_problem, doors}
+use Rattle.plan_gen.specs.Gripper.{gripper_problem}
 use Rattle.plan_gen.specs.Task.{domain_of, problem_of}
 
 two_digits : (n : ℕ) → n ≤ 65 → length (decimal n) ≤ 2

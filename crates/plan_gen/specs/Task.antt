@@ -2,8 +2,8 @@
 use Rattle.std.specs.Prelude.{ℕ, List}
 use Rattle.plan_gen.specs.declared.Kind.{Kind}
 use Rattle.plan_gen.specs.declared.Kind.TheVariants.{Corridor, Gripper}
-use Rattle.plan_gen.specs.own.Corridor.{corridor_domain, corridor_problem}
-use Rattle.plan_gen.specs.own.Gripper.{gripper_domain, gripper_problem}
+use Rattle.plan_gen.specs.Corridor.{corridor_domain, corridor_problem}
+use Rattle.plan_gen.specs.Gripper.{gripper_domain, gripper_problem}
 
 -- The text of the domain.
 abbrev pub domain_of : Kind → List ℕ

@@ -1,5 +1,5 @@
 ghost use Rattle.std.specs.Prelude.{◌≡◌, ◌++◌, IfOk, OnOk};
-ghost use Rattle.plan_gen.specs.own.Corridor.{corridor_problem, door, doors};
+ghost use Rattle.plan_gen.specs.Corridor.{corridor_problem, door, doors};
 
 use crate::head::put_head;
 use crate::text::{put, put_number};

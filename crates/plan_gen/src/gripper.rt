@@ -1,5 +1,5 @@
 ghost use Rattle.std.specs.Prelude.{◌≡◌, ◌++◌, IfOk, OnOk};
-ghost use Rattle.plan_gen.specs.own.Gripper.{gripper_init, gripper_goal, gripper_problem};
+ghost use Rattle.plan_gen.specs.Gripper.{gripper_init, gripper_goal, gripper_problem};
 
 use crate::head::put_head;
 use crate::text::{put, put_numbered};

@@ -1,6 +1,6 @@
 // The head of a problem.
 ghost use Rattle.std.specs.Prelude.{◌≡◌, ◌++◌, OnOk};
-ghost use Rattle.plan_gen.specs.own.Head.{names, objects, head};
+ghost use Rattle.plan_gen.specs.Head.{names, objects, head};
 
 use crate::Memory;
 use crate::text::{put, put_number, put_numbered};

@@ -1,5 +1,5 @@
 ghost use Rattle.std.specs.Prelude.{◌≡◌, ◌++◌, OnOk, decimal};
-ghost use Rattle.plan_gen.specs.own.Numbered.{numbered};
+ghost use Rattle.plan_gen.specs.Numbered.{numbered};
 
 use containers::ListOf;
 pub use containers::memory::Memory;

@@ -13,7 +13,7 @@ use Rattle.plan_endings.specs.declared.ending.File.TheVariants.{Domain, Problem}
 use Rattle.input_files.specs.Limits.{most_of, most_bytes, file_at}
 use Rattle.input_files.specs.Files.{FaultsFrom, IsWhole, IsFront, IsWholeOrFront, AreTakenOrLong}
 use Rattle.commands.specs.Tasks.{grounded}
-use Rattle.plan_top.specs.own.Causes.{HasRead, stopped, IsPartOf, ArePartsOf, Comes, unread, in_parts, is_answer}
+use Rattle.plan_top.specs.Causes.{HasRead, stopped, IsPartOf, ArePartsOf, Comes, unread, in_parts, is_answer}
 use Rattle.plan_top.specs.own.Parts.{IsBatch, IsShort, AnswersPart, AnswersBatch, IsRunOf, IsPart, IsSound, ArePrepared, AnswersRun, open_in, woven}
 use Rattle.plan_top.specs.declared.parts.Part.{Part}
 use Rattle.plan_top.specs.declared.parts.Part.TheVariants as parts

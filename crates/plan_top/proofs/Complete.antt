@@ -44,8 +44,8 @@ use Rattle.commands.specs.Tasks.{AreTask, RefusesTask, IsTreeFault, domain_tree,
 use Rattle.commands.specs.Raced.{too_large, ended, outcome_of}
 use Rattle.commands.specs.Generated.{AnswersGenerated, RacesGenerated, generated_report}
 use Rattle.commands.specs.Answers.{OfTwo, OfThree, Decides, AnswersPlan, AnswersGround, AnswersOrder, AnswersCheck, AnswersProve, not_run, run, AnswersVerify, unfit, beyond, spelled, not_checked, checked, ending_of_run, ending_of_check, ending_of}
-use Rattle.plan_top.specs.own.Causes.{ComesFor, stopped, decided, ArePartsOf, IsBatchOf, Comes, no_request, of_one, unread, in_parts}
-use Rattle.plan_top.specs.own.Complete.{GoesWell, AreWithin, AreChecked, AreSpelled, AreInOrder, IsGoodAlone, IsGood}
+use Rattle.plan_top.specs.Causes.{ComesFor, stopped, decided, ArePartsOf, IsBatchOf, Comes, no_request, of_one, unread, in_parts}
+use Rattle.plan_top.specs.Complete.{GoesWell, AreWithin, AreChecked, AreSpelled, AreInOrder, IsGoodAlone, IsGood}
 use Rattle.plan_endings.specs.Ending.{status_of}
 use Rattle.gt_core.specs.Lawful.{conditional_in}
 use Rattle.grounding_defs.specs.Grounded.{Grounded, IsGrounded}

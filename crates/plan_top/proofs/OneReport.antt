@@ -56,9 +56,9 @@ use Rattle.commands.specs.Tasks.{OnceGrounded}
 use Rattle.commands.specs.Raced.{input_of, IsTooLarge, ComesTo, OnceRaced, too_large, ended, outcome_of}
 use Rattle.commands.specs.Generated.{RacesGenerated, generated_line, generated_report}
 use Rattle.commands.specs.Answers.{OfSettings, Decides, AnswersPlan, AnswersGround, AnswersOrder, AnswersCheck, AnswersProve, not_run, run, AnswersProof, not_checked, checked, AnswersVerify, unfit, beyond, spelled, ending_of, refusal_of_plan, ending_of_run, ending_of_check}
-use Rattle.plan_top.specs.own.Causes.{HasRead, ComesFor, stopped, decided, IsPartOf, ArePartsOf, IsBatchOf, Comes}
+use Rattle.plan_top.specs.Causes.{HasRead, ComesFor, stopped, decided, IsPartOf, ArePartsOf, IsBatchOf, Comes}
 use Rattle.plan_endings.specs.Ending.{status_of, batch_of}
-use Rattle.plan_top.specs.own.OneReport.{AreSameRace, AreSameAlone, plans_same, generates_same, checks_same, grounds_same, orders_same, proves_same, verifies_same, AreSame, alone, batches_same, AskForOnePart, OneEnding}
+use Rattle.plan_top.specs.OneReport.{AreSameRace, AreSameAlone, plans_same, generates_same, checks_same, grounds_same, orders_same, proves_same, verifies_same, AreSame, alone, batches_same, AskForOnePart, OneEnding}
 use Rattle.plan_top.proofs.Reports.{is_stop}
 use Rattle.plan_top.proofs.Told.{asked_comes, asked_parts, one_request, same_parts}
 use Rattle.plan_top.proofs.Complete.{of_two, of_three}

@@ -32,8 +32,8 @@ use Rattle.input_files.specs.Limits.{file_at}
 use Rattle.commands.specs.Tasks.{IsReady, OnceRead, not_read, read, OnceGrounded, not_grounded, grounded}
 use Rattle.commands.specs.Answers.{AnswersProve, not_run, run, AnswersProof, not_checked, checked, AnswersVerify, unfit, beyond, spelled, ending_of_run, ending_of_check}
 use Rattle.plan_claims.specs.Laws.{Laws}
-use Rattle.plan_top.specs.own.Causes.{HasRead, Comes}
-use Rattle.plan_top.specs.own.OneReport.{AskToVerify}
+use Rattle.plan_top.specs.Causes.{HasRead, Comes}
+use Rattle.plan_top.specs.OneReport.{AskToVerify}
 use Rattle.plan_top.proofs.Told.{asked_comes}
 use Rattle.plan_top.proofs.Reports.{is_stop}
 use Rattle.plan_top.proofs.Reported.{task_stops}

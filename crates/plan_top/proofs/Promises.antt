@@ -33,7 +33,7 @@ use Rattle.commands.specs.Stepping.{places_by, is_plan_by}
 use Rattle.commands.specs.Tasks.{AreTask, IsReady, OnceRead, not_read, read, OnceGrounded}
 use Rattle.commands.specs.Raced.{ComesTo}
 use Rattle.commands.specs.Answers.{Decides, AnswersGround, AnswersOrder, AnswersCheck, AnswersProve, not_run, run, AnswersVerify, unfit, beyond, spelled, not_checked, checked, ending_of_run, ending_of_check, ending_of}
-use Rattle.plan_top.specs.own.Causes.{is_answer, HasRead, ComesFor, stopped, decided, IsPartOf, ArePartsOf, IsBatchOf, ArePartsSo, Comes, no_request, of_one, unread, in_parts, names_in, FaultOf}
+use Rattle.plan_top.specs.Causes.{is_answer, HasRead, ComesFor, stopped, decided, IsPartOf, ArePartsOf, IsBatchOf, ArePartsSo, Comes, no_request, of_one, unread, in_parts, names_in, FaultOf}
 use Rattle.formula_defs.specs.Variables.{chain_places}
 use Rattle.clause_base.specs.Formula.{Cnf}
 use Rattle.clause_base.specs.Derivation.{IsRefutation}
@@ -48,8 +48,8 @@ use Rattle.certificates.specs.declared.prove.Proved.TheVariants as proved
 use Rattle.certificates.specs.declared.verify.Judged.{Judged}
 use Rattle.certificates.specs.declared.verify.Judged.TheVariants as judged
 use Rattle.requests.specs.declared.request.Stepping.TheVariants.{Exists, All}
-use Rattle.plan_top.specs.own.Complete.{GoesWell, IsGood}
-use Rattle.plan_top.specs.own.OneReport.{AskForOne, AskForOnePart, AskToVerify, AskToProve}
+use Rattle.plan_top.specs.Complete.{GoesWell, IsGood}
+use Rattle.plan_top.specs.OneReport.{AskForOne, AskForOnePart, AskToVerify, AskToProve}
 use Rattle.plan_endings.specs.Ending.{status_of, status_of_race, text_of, greatest, parts_text, batch_of, IsSmall}
 use Rattle.plan_claims.specs.Headline.{Printed, OfFiles, OfThreeFiles, OfPlans, PlanRuns, EveryOrderRuns, HasAtLeast, HasPlanOf, TellsExhausted, NoStepPlan, NoPlan, LineIsSo, SpendsAll, PartIsSo, Certifies, CertifiesNothing, ProvesNone, TellsGround, TellsOrder, AreCallsOfPlan, AreCallsOfNoPlan}
 use Rattle.plan_claims.specs.Laws.{Laws}

@@ -38,8 +38,8 @@ use Rattle.commands.specs.Answers.{AnswersProve, not_run, run, ending_of_run}
 use Rattle.plan_claims.specs.Headline.{OfGrounded, IsSo, LineIsSo, standing_of}
 use Rattle.plan_claims.specs.Laws.{Laws}
 use Rattle.plan_claims.proofs.published.Claims as claims
-use Rattle.plan_top.specs.own.Causes.{HasRead, Comes}
-use Rattle.plan_top.specs.own.OneReport.{AskToProve}
+use Rattle.plan_top.specs.Causes.{HasRead, Comes}
+use Rattle.plan_top.specs.OneReport.{AskToProve}
 use Rattle.plan_top.proofs.Fits.{line_fits}
 use Rattle.plan_top.proofs.OneTask.{one_task, no_stop}
 use Rattle.plan_top.proofs.OneReport.{IsCause, cause_of, long_stops, not_long, not_small}

@@ -37,7 +37,7 @@ use Rattle.commands.specs.Tasks.{RefusesTask, domain_tree, problem_tree, no_task
 use Rattle.commands.specs.Raced.{too_large, ended}
 use Rattle.commands.specs.Generated.{AnswersGenerated, RacesGenerated}
 use Rattle.commands.specs.Answers.{OfTwo, OfThree, Decides, AnswersPlan, AnswersGround, AnswersOrder, AnswersCheck, AnswersProve, not_run, run, AnswersVerify, unfit, beyond, spelled, not_checked, checked, ending_of_run, ending_of_check, refusal_of_plan, ending_of}
-use Rattle.plan_top.specs.own.Causes.{is_answer, HasRead, ComesFor, decided, IsBatchOf, AskForBatch, Comes, no_request, of_one, unread, in_parts}
+use Rattle.plan_top.specs.Causes.{is_answer, HasRead, ComesFor, decided, IsBatchOf, AskForBatch, Comes, no_request, of_one, unread, in_parts}
 
 -- ---- endings that tell of a file
 

@@ -1,1 +1,4 @@
+pub mod Causes
+pub mod Complete
+pub mod OneReport
 pub mod own

@@ -5,7 +5,7 @@ ghost use Rattle.requests.specs.OneTask.{IsOfOne};
 ghost use Rattle.requests.specs.Requested.{requested, command_named};
 ghost use Rattle.requests.specs.Seen.{IsSized, files_of, seen};
 ghost use Rattle.input_files.specs.Files.{NotesAmong};
-ghost use Rattle.plan_top.specs.own.Causes.{Comes, AskForBatch, names_in};
+ghost use Rattle.plan_top.specs.Causes.{Comes, AskForBatch, names_in};
 ghost use Rattle.input_files.specs.Ends.{EndsAs};
 
 use crate::Ending;

@@ -9,11 +9,11 @@ ghost use Rattle.requests.specs.declared.request.Stepping.TheVariants.{Exists, A
 ghost use Rattle.requests.specs.declared.request.Turns.{Turns};
 ghost use Rattle.requests.specs.Requested.{requested, command_named};
 ghost use Rattle.input_files.specs.Files.{NotesAmong};
-ghost use Rattle.plan_top.specs.own.Causes.{Comes, IsBatchOf, ArePartsSo, HasRead, AskForBatch, FaultOf, names_in};
-ghost use Rattle.plan_top.specs.own.Complete.{GoesWell, IsGood};
+ghost use Rattle.plan_top.specs.Causes.{Comes, IsBatchOf, ArePartsSo, HasRead, AskForBatch, FaultOf, names_in};
+ghost use Rattle.plan_top.specs.Complete.{GoesWell, IsGood};
 ghost use Rattle.plan_endings.specs.Ending.{status_of, text_of, greatest, parts_text, IsSmall};
 ghost use Rattle.plan_claims.specs.Headline.{Printed, OfFiles, OfThreeFiles, OfPlans, PlanRuns, EveryOrderRuns, HasAtLeast, HasPlanOf, TellsExhausted, NoStepPlan, NoPlan, LineIsSo, SpendsAll, Certifies, CertifiesNothing, ProvesNone, TellsGround, TellsOrder, AreCallsOfPlan, AreCallsOfNoPlan};
-ghost use Rattle.plan_top.specs.own.OneReport.{AskForOne, AskForOnePart, AskToVerify, AskToProve};
+ghost use Rattle.plan_top.specs.OneReport.{AskForOne, AskForOnePart, AskToVerify, AskToProve};
 ghost use Rattle.input_files.specs.Ends.{ending_in};
 ghost use Rattle.plan_endings.specs.declared.ending.Ending.{Ending};
 ghost use Rattle.plan_endings.specs.declared.ending.Ending.TheVariants.{Listing, Report, TooLong};

@@ -7,7 +7,7 @@ use Rattle.requests.specs.declared.command.Name.{Name}
 use Rattle.requests.specs.declared.command.Name.TheVariants.{Plan, Check, Ground, Order, Gen, Prove, Verify, Batch}
 use Rattle.requests.specs.declared.command.Readers.{Readers}
 use Rattle.requests.specs.Arguments.{number}
-use Rattle.requests.specs.own.Command.{AreReaders, command_of, race_options, workers_option}
+use Rattle.requests.specs.Command.{AreReaders, command_of, race_options, workers_option}
 use Rattle.requests.specs.Fit.{IsFit}
 use Rattle.requests.specs.Passed.{Passed}
 use Rattle.requests.specs.own.Ranges.{Has, HasNumbers, HasSettings}

@@ -6,4 +6,5 @@ pub mod Arguments
 pub mod Fit
 pub mod Passed
 pub mod Same
+pub mod Command
 pub mod own

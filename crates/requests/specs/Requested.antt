@@ -4,7 +4,7 @@ use Rattle.clap.specs.Walk.{Text}
 use Rattle.clap.specs.Simple.{matches_of}
 use Rattle.clap.specs.Takes.{takes}
 use Rattle.requests.specs.declared.command.Name.{Name}
-use Rattle.requests.specs.own.Command.{command_of, lists, named}
+use Rattle.requests.specs.Command.{command_of, lists, named}
 use Rattle.requests.specs.Seen.{Seen, counted, seen_in}
 
 -- What a command's words ask for: what its matches give, where it takes the words and there are as many as may be.

@@ -2,7 +2,7 @@
 ghost use Rattle.std.specs.Prelude.{◌≡◌, ◌++◌, map, IfOk, OnOk, Some, None};
 ghost use Rattle.clap.specs.Words.{app_of};
 ghost use Rattle.requests.specs.Arguments.{rule_for};
-ghost use Rattle.requests.specs.own.Command.{named, two, options, race_options, word_of, rules_of, command_of, AreReaders};
+ghost use Rattle.requests.specs.Command.{named, two, options, race_options, word_of, rules_of, command_of, AreReaders};
 
 use crate::request::Stepping;
 use crate::{Argument, put, with_all};

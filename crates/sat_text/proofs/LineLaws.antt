@@ -9,7 +9,7 @@ use Rattle.sat_text.specs.declared.words.Signed.{Signed}
 use Rattle.sat_text.specs.declared.lrat_line.Line.{Line}
 use Rattle.sat_text.specs.declared.lrat_line.Part.{Part}
 use Rattle.sat_text.specs.declared.lrat_line.Part.TheVariants.{Literals, Ids}
-use Rattle.sat_text.specs.own.Words.{first_number, words_of, begins_with}
+use Rattle.sat_text.specs.Words.{first_number, words_of, begins_with}
 use Rattle.sat_text.proofs.WordsLaws.{not_zero}
 use Rattle.sat_text.specs.LratLine.{line_of, up_to_zero, all_to_zero, addition, deletion, rest_of, codes_of, code_of, has_code, plain_ids, IsHeld}
 use Rattle.sat_text.specs.own.Reading.{Reads, ReadsLiterals, ReadsIds}

@@ -5,7 +5,7 @@ use Rattle.std.specs.Str.{bytes_eq}
 use Rattle.std.proofs.lemmas.Bool.{eq-eqb, eqb-true}
 use Rattle.std.proofs.lemmas.Bool.Decides.{eqb_tells}
 use Rattle.sat_text.specs.declared.words.Signed.{Signed}
-use Rattle.sat_text.specs.own.Words.{words_of, number_of, first_number}
+use Rattle.sat_text.specs.Words.{words_of, number_of, first_number}
 use Rattle.sat_text.specs.Values.{Told, tells, numbers_of, numbers_told, is_satisfiable, with_number, with_numbers, with_line}
 use Rattle.sat_text.specs.Stands.{Table, Holds, ReaderView, HasTold, Goes}
 

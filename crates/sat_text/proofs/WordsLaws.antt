@@ -6,7 +6,7 @@ use Rattle.std.specs.List.{slice_split, onto_first, list_all}
 use Rattle.std.proofs.lemmas.Bool.{eqb-true, eq-eqb, lt-ltb, le-ltb}
 use Rattle.std.proofs.lemmas.Bool.Decides.{eqb_tells, nat_tests}
 use Rattle.sat_text.specs.declared.words.Signed.{Signed}
-use Rattle.sat_text.specs.own.Words.{is_blank, is_some, words_of, value_of, value_with, is_natural, natural_of, negative, number_of, first_number, begins_with}
+use Rattle.sat_text.specs.Words.{is_blank, is_some, words_of, value_of, value_with, is_natural, natural_of, negative, number_of, first_number, begins_with}
 use Rattle.sat_text.specs.own.Cut.{after_blanks, digits_front, after_digits, word_front, after_word, ends_word}
 
 -- the parts after the first one

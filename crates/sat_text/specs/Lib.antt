@@ -4,4 +4,5 @@ pub mod Dimacs
 pub mod FirstFalse
 pub mod Values
 pub mod Stands
+pub mod Words
 pub mod own

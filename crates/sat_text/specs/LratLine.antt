@@ -4,7 +4,7 @@ use Rattle.std.specs.List.{list_any}
 use Rattle.clause_base.specs.Literal.{literal_of}
 use Rattle.sat_text.specs.declared.words.Signed.{Signed}
 use Rattle.sat_text.specs.declared.lrat_line.Line.{Line}
-use Rattle.sat_text.specs.own.Words.{words_of, first_number, begins_with, number_of}
+use Rattle.sat_text.specs.Words.{words_of, first_number, begins_with, number_of}
 
 -- a line: its id, whether it deletes clauses, the literals of the clause that it adds, and the hints, or the ids of what it deletes
 pub record LineView : Type 0 where

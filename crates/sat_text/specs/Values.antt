@@ -3,7 +3,7 @@ use Rattle.std.specs.Prelude.{ℕ, ◌+◌, ◌==◌, ◌&&◌, not, Bool, true,
 use Rattle.std.specs.List.{list_any, range_with_len}
 use Rattle.std.specs.Str.{bytes_eq}
 use Rattle.sat_text.specs.declared.words.Signed.{Signed}
-use Rattle.sat_text.specs.own.Words.{words_of, number_of}
+use Rattle.sat_text.specs.Words.{words_of, number_of}
 use Rattle.sat_text.specs.Lines.{whole_lines, last_part, counted}
 
 -- the numbers that words are, in their order; none where one is no number

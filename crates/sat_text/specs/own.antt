@@ -1,4 +1,3 @@
-pub mod Words
 pub mod Cut
 pub mod Short
 pub mod Reading

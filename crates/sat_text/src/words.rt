@@ -1,7 +1,7 @@
 //! The words of a line, which blanks part.
 ghost use Rattle.std.specs.Prelude.{◌≡◌, ◌<◌, ◌==◌, ◌+◌, ◌*◌, ◌-◌, ◌≤◌, ◌∷◌, List, [], ℕ, Bool, IfSome, IfNone, IsSomeAnd, Some, None, true, false, codes, slice_index, take, drop, length, nat_lt, if◌then◌else◌};
 ghost use Rattle.std.specs.Char.{is_ascii_digit};
-ghost use Rattle.sat_text.specs.own.Words.{is_blank, words_of, value_of, value_with, natural_of, first_number, begins_with};
+ghost use Rattle.sat_text.specs.Words.{is_blank, words_of, value_of, value_with, natural_of, first_number, begins_with};
 ghost use Rattle.sat_text.specs.own.Cut.{after_blanks, digits_front, after_digits, word_front, after_word, ends_word};
 
 use crate::short::short_number;
@@ -25,7 +25,7 @@ pub struct Words<'a> {
 
 impl<'a> Model for Words<'a> {
     ghost use Rattle.std.specs.Prelude.{List, ℕ};
-    ghost use Rattle.sat_text.specs.own.Words.{words_of};
+    ghost use Rattle.sat_text.specs.Words.{words_of};
 
     ghost Value = { List (List ℕ) };
 

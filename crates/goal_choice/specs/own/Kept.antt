@@ -4,7 +4,7 @@ use Rattle.std.specs.List.{AllByRecursion}
 use Rattle.clause_base.specs.Choice.{Known}
 use Rattle.formula_defs.specs.Layout.{variables}
 use Rattle.goal_choice.specs.Means.{Means, variable_from, start_of}
-use Rattle.goal_choice.specs.own.Walk.{has_value, is_false_at, support_of, supports, walk}
+use Rattle.goal_choice.specs.Walk.{has_value, is_false_at, support_of, supports, walk}
 use Rattle.goal_choice.specs.own.Supports.{IsStep}
 use Rattle.goal_choice.specs.own.Members.{Literals, AreMeans, no_literals}
 

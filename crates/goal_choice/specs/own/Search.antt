@@ -2,7 +2,7 @@
 use Rattle.std.specs.Prelude.{◌≡◌, ℕ, ◌+◌, List, [], ◌∷◌, Bool, true, false, Option, Some, None, if◌then◌else◌, nat_le, length, slice_index_or}
 use Rattle.std.specs.List.Sorted.{IsNonDecreasing}
 use Rattle.clause_base.specs.Choice.{Known}
-use Rattle.goal_choice.specs.own.Walk.{has_value}
+use Rattle.goal_choice.specs.Walk.{has_value}
 
 -- the lesser of two variables
 abbrev pub lesser_variable : ℕ → Option ℕ → ℕ

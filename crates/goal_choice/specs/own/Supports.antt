@@ -2,7 +2,7 @@
 use Rattle.std.specs.Prelude.{◌≡◌, ℕ, ◌/◌, ◌<◌, List, [], ◌∷◌, ◌++◌, Option, Some, None, fold}
 use Rattle.std.specs.List.{AllByRecursion}
 use Rattle.containers.specs.Rising.{put}
-use Rattle.goal_choice.specs.own.Walk.{Support as Meaning, Chooses, Wants}
+use Rattle.goal_choice.specs.Walk.{Support as Meaning, Chooses, Wants}
 use Rattle.goal_choice.specs.declared.support.Support.{Support}
 use Rattle.goal_choice.specs.declared.support.Support.TheVariants.{Choose, Want, Keep}
 

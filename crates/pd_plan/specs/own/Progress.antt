@@ -7,8 +7,8 @@ use Rattle.pd_words.specs.declared.named.Named.{Named}
 use Rattle.pd_plan.specs.declared.lists.WordList.{WordList}
 use Rattle.pd_plan.specs.Fault.{Fault, syntax}
 use Rattle.pd_words.specs.First.{after}
-use Rattle.pd_plan.specs.own.Tokens.{Token, tokens, joined}
-use Rattle.pd_plan.specs.own.WordLists.{word_list, lists, list_on}
+use Rattle.pd_plan.specs.Tokens.{Token, tokens, joined}
+use Rattle.pd_plan.specs.WordLists.{word_list, lists, list_on}
 
 -- between lists, or in the list that began at a place, after some words
 pub data Place : Type 0 where

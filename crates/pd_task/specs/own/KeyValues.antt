@@ -2,7 +2,7 @@
 use Rattle.std.specs.Prelude.{option_map}
 use Rattle.pd_sexp.specs.View.{view}
 use Rattle.pd_task.specs.declared.action.Keys.{Keys}
-use Rattle.pd_task.specs.own.Action as action
+use Rattle.pd_task.specs.Action as action
 
 -- the values that the `Keys` of the reader have
 abbrev pub keys_of : Keys → action.Keys

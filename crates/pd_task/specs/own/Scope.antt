@@ -8,8 +8,8 @@ use Rattle.pd_words.specs.Typed.{variable_list}
 use Rattle.pd_words.specs.First.{◌>>=◌}
 use Rattle.pd_task.specs.declared.vocabulary.Vocabulary.{Vocabulary}
 use Rattle.pd_words.specs.Standing.{Standing}
-use Rattle.pd_task.specs.own.Atoms.{Names}
-use Rattle.pd_task.specs.own.Effects.{Site}
+use Rattle.pd_task.specs.Atoms.{Names}
+use Rattle.pd_task.specs.Effects.{Site}
 
 -- what names stand for, with these variables in scope
 abbrev pub names_with : Vocabulary → List (List (List ℕ)) → Names

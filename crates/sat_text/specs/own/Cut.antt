@@ -1,7 +1,7 @@
 -- The front of a text, cut off where its bytes change kind.
 use Rattle.std.specs.Prelude.{ℕ, Bool, true, not, List, [], ◌∷◌, if◌then◌else◌}
 use Rattle.std.specs.Char.{is_ascii_digit}
-use Rattle.sat_text.specs.own.Words.{is_blank}
+use Rattle.sat_text.specs.Words.{is_blank}
 
 -- what follows the blanks at the front
 abbrev pub after_blanks : List ℕ → List ℕ

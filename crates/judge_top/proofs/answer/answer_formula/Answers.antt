@@ -1,7 +1,7 @@
 use Rattle.std.proofs.Common.{refl, subst, ◌∙◌}
 use Rattle.gt_core.specs.Task.{Task}
 use Rattle.plan_tasks.specs.Stepping.{places_by, is_plan_by}
-use Rattle.judge_top.specs.own.Answers.{ready, too_large, formula, OfKnown, IsFormula, TellsTooMany}
+use Rattle.judge_top.specs.Answers.{ready, too_large, formula, OfKnown, IsFormula, TellsTooMany}
 use Rattle.judge_top.proofs.Handed.{files_handed, task_handed}
 use Rattle.judge_top.proofs.Formulas.{tells}
 use Rattle.judge_top.proofs.answer.answer_formula.Goals as goal

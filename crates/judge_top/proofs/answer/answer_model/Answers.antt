@@ -1,6 +1,6 @@
 use Rattle.std.proofs.Common.{refl}
 use Rattle.plan_tasks.specs.Stepping.{places_by}
-use Rattle.judge_top.specs.own.Answers.{ready, too_large, model, TellsTooMany}
+use Rattle.judge_top.specs.Answers.{ready, too_large, model, TellsTooMany}
 use Rattle.judge_top.proofs.Handed.{handed, files_handed, task_handed}
 use Rattle.judge_top.proofs.Formulas.{calls_below}
 use Rattle.judge_top.proofs.answer.answer_model.Goals as goal

@@ -1,6 +1,6 @@
 use Rattle.std.proofs.Common.{sym, ap, ◌∙◌, option_map}
-use Rattle.judge_top.specs.own.Seen.{seen}
-use Rattle.judge_top.specs.own.Causes.{asked}
+use Rattle.judge_top.specs.Seen.{seen}
+use Rattle.judge_top.specs.Causes.{asked}
 use Rattle.judge_top.proofs.Handed.{weaker}
 use Rattle.judge_top.proofs.decide.decide.Goals as goal
 

@@ -3,8 +3,8 @@ use Rattle.requests.specs.Seen.{grounds}
 use Rattle.input_files.specs.Limits.{file_at}
 use Rattle.input_files.specs.Files.{IsWhole, NotesAmong}
 use Rattle.input_files.proofs.published.Taking.{taken_short, kept_count}
-use Rattle.judge_top.specs.own.Seen.{seen}
-use Rattle.judge_top.specs.own.Answers.{tape_run}
+use Rattle.judge_top.specs.Seen.{seen}
+use Rattle.judge_top.specs.Answers.{tape_run}
 use Rattle.judge_top.proofs.Deciding.{both_taken, stops_for, taken_for, two_named}
 use Rattle.judge_top.proofs.Handed.{handed, weaker}
 use Rattle.judge_top.proofs.decide.decide_request.Goals as goal

@@ -2,7 +2,7 @@ use Rattle.std.proofs.Common.{◌≡◌, ◌∙◌, ◌++◌, ℕ, List, take, s
 use Rattle.pl_io.specs.Tape.{Given}
 use Rattle.sat_text.specs.Values.{model_of}
 use Rattle.sat_text.specs.Stands.{HasRead}
-use Rattle.judge_top.specs.own.Answers.{tape_run}
+use Rattle.judge_top.specs.Answers.{tape_run}
 use Rattle.judge_top.proofs.model.read_given.Goals as goal
 
 pub returns-in-Ok-eq0-clause-given : goal.returns-in-Ok-eq0-clause-given

@@ -4,8 +4,8 @@ use Rattle.clap.specs.Walk.{Row}
 use Rattle.requests.proofs.published.Commands.{asked, unasked}
 use Rattle.requests.specs.Fit.{IsFit}
 use Rattle.requests.specs.Passed.{Passed}
-use Rattle.judge_top.specs.own.Command.{command_of, steps_list}
-use Rattle.judge_top.specs.own.Seen.{seen, seen_in}
+use Rattle.judge_top.specs.Command.{command_of, steps_list}
+use Rattle.judge_top.specs.Seen.{seen, seen_in}
 use Rattle.judge_top.proofs.Fit.{as_list, fit, horizon_in}
 use Rattle.judge_top.proofs.read.read_command.Goals as goal
 

@@ -1,5 +1,5 @@
 use Rattle.std.proofs.Common.{refl, arith, sym, ap, map, string_bytes}
-use Rattle.judge_top.specs.own.Answers.{end_in}
+use Rattle.judge_top.specs.Answers.{end_in}
 use Rattle.judge_top.proofs.Handed.{end_answers}
 use Rattle.judge_top.proofs.Promises.{is_judged, is_accepted, is_rejected, is_no_proof, is_planned, is_model_told, is_no_model, is_no_text, is_told, read_fault, usage, not_taken, no_command, status_apart}
 use Rattle.judge_top.proofs.top.judge.Goals as goal

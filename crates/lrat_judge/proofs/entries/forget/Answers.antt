@@ -1,6 +1,6 @@
 use Rattle.std.proofs.Common.{◌∙◌, ◌<◌, ◌≤◌, Bool, length, List, ℕ, sym, ap, refl, subst, get_or}
 use Rattle.clause_base.specs.declared.log.Entry.TheVariants.{Drop}
-use Rattle.lrat_judge.specs.own.Follow.{number_named, with_entry}
+use Rattle.lrat_judge.specs.Follow.{number_named, with_entry}
 use Rattle.lrat_judge.specs.Reached.{Enters}
 use Rattle.lrat_judge.proofs.Entering.{forgets_none, forgets_stop, forgets_more, forgets_all}
 use Rattle.lrat_judge.proofs.entries.forget.Goals as goal

@@ -2,7 +2,7 @@ use Rattle.std.proofs.Common.{◌≡◌, List, drop, length}
 use Rattle.clause_base.specs.declared.log.Entry.{Entry}
 use Rattle.rup_check.specs.Taken.{HasTaken}
 use Rattle.lrat_judge.specs.Judged.{HasCounted, counted}
-use Rattle.lrat_judge.specs.own.Follow.{without}
+use Rattle.lrat_judge.specs.Follow.{without}
 use Rattle.lrat_judge.proofs.entries.forget.Given as goal
 
 -- the formula is the same, the entries so far are counted, and what is to be dropped after them is what was to be dropped at first

@@ -1,8 +1,8 @@
 use Rattle.std.proofs.Common.{◌∙◌, ◌∷◌, [], ◌++◌, List, ℕ, sym, ap, Ok, Some, subst}
 use Rattle.clause_base.specs.Clause.{clause_of}
-use Rattle.lrat_judge.specs.own.Ids.{Rises}
+use Rattle.lrat_judge.specs.Ids.{Rises}
 use Rattle.sat_text.specs.LratLine.{plain_ids}
-use Rattle.lrat_judge.specs.own.Follow.{numbers_named}
+use Rattle.lrat_judge.specs.Follow.{numbers_named}
 use Rattle.lrat_judge.proofs.Entering.{none_stands, clause_foreign, clause_unnamed, clause_none, clause_falls, with_clause_is, ok_stands, rises_so, rises_not}
 use Rattle.lrat_judge.proofs.entries.learn.Goals as goal
 

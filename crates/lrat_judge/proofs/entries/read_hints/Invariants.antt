@@ -1,5 +1,5 @@
 use Rattle.std.proofs.Common.{◌≡◌, ◌++◌, ℕ, List, drop, option_map}
-use Rattle.lrat_judge.specs.own.Follow.{numbers_named}
+use Rattle.lrat_judge.specs.Follow.{numbers_named}
 use Rattle.lrat_judge.proofs.entries.read_hints.Given as goal
 
 -- the numbers so far, and then those of the ids that are left

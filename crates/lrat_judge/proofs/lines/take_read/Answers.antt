@@ -1,6 +1,6 @@
 use Rattle.std.proofs.Common.{◌∙◌, List, ℕ, option_map, sym, ap}
 use Rattle.clause_base.specs.declared.log.Entry.{Entry}
-use Rattle.lrat_judge.specs.own.Follow.{without}
+use Rattle.lrat_judge.specs.Follow.{without}
 use Rattle.lrat_judge.proofs.Entering.{follow_deletes, follow_adds, stands_entered, stands_as, ok_stands_as}
 use Rattle.lrat_judge.proofs.lines.take_read.Goals as goal
 

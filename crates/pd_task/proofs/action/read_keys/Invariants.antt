@@ -1,7 +1,7 @@
 use Rattle.std.proofs.Common.{◌≡◌, length}
 use Rattle.std.specs.Prelude.{option_map}
 use Rattle.pd_sexp.specs.View.{view, views}
-use Rattle.pd_task.specs.own.Action.{keys_from, no_keys}
+use Rattle.pd_task.specs.Action.{keys_from, no_keys}
 use Rattle.pd_task.proofs.action.read_keys.Given as goal
 
 abbrev pub invariant-loop-word : goal.invariant-loop-word

@@ -1,4 +1,4 @@
-use Rattle.pd_task.specs.own.Declarations.{and_predicate}
+use Rattle.pd_task.specs.Declarations.{and_predicate}
 use Rattle.pd_task.proofs.Ands.{each_is, item_read, item_handed_on}
 use Rattle.pd_task.proofs.predicates.read_predicates.Goals as goal
 

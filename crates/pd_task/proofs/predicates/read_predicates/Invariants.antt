@@ -1,7 +1,7 @@
 use Rattle.std.proofs.Common.{◌≡◌, [], drop}
 use Rattle.pd_sexp.specs.View.{views}
 use Rattle.pd_words.specs.First.{each}
-use Rattle.pd_task.specs.own.Declarations.{and_predicate}
+use Rattle.pd_task.specs.Declarations.{and_predicate}
 use Rattle.pd_task.proofs.predicates.read_predicates.Given as goal
 
 abbrev pub invariant-loop-item : goal.invariant-loop-item

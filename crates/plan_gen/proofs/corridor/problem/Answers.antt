@@ -1,6 +1,6 @@
 use Rattle.std.proofs.Common.{◌++◌, ap, ◌∙◌}
 use Rattle.std.specs.Prelude.{codes, decimal}
-use Rattle.plan_gen.specs.own.Corridor.{corridor_head, corridor_init, corridor_goal, doors}
+use Rattle.plan_gen.specs.Corridor.{corridor_head, corridor_init, corridor_goal, doors}
 use Rattle.plan_gen.proofs.Pieces.{after_three}
 use Rattle.plan_gen.proofs.corridor.problem.Goals as goal
 

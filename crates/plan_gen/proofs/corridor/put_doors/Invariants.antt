@@ -1,5 +1,5 @@
 use Rattle.std.proofs.Common.{◌≡◌, ◌++◌}
-use Rattle.plan_gen.specs.own.Corridor.{doors}
+use Rattle.plan_gen.specs.Corridor.{doors}
 use Rattle.plan_gen.proofs.corridor.put_doors.Given as goal
 
 abbrev pub invariant-loop-room : goal.invariant-loop-room

@@ -1,5 +1,5 @@
 use Rattle.std.specs.Prelude.{codes}
-use Rattle.plan_gen.specs.own.Numbered.{numbered}
+use Rattle.plan_gen.specs.Numbered.{numbered}
 use Rattle.plan_gen.proofs.Pieces.{after_five}
 use Rattle.plan_gen.proofs.gripper.put_init.Goals as goal
 

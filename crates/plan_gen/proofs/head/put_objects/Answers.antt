@@ -1,6 +1,6 @@
 use Rattle.std.proofs.Common.{[]}
 use Rattle.std.specs.Prelude.{codes}
-use Rattle.plan_gen.specs.own.Numbered.{numbered}
+use Rattle.plan_gen.specs.Numbered.{numbered}
 use Rattle.plan_gen.proofs.Pieces.{after_five}
 use Rattle.plan_gen.proofs.head.put_objects.Goals as goal
 

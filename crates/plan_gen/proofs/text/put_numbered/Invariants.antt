@@ -1,5 +1,5 @@
 use Rattle.std.proofs.Common.{◌≡◌, ◌++◌}
-use Rattle.plan_gen.specs.own.Numbered.{numbered}
+use Rattle.plan_gen.specs.Numbered.{numbered}
 use Rattle.plan_gen.proofs.text.put_numbered.Given as goal
 
 abbrev pub invariant-loop-passed : goal.invariant-loop-passed

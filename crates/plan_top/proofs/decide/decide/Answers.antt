@@ -1,6 +1,6 @@
 use Rattle.std.proofs.Common.{sym, refl, map, string_bytes}
 use Rattle.input_files.proofs.published.Hearing.{handed_none}
-use Rattle.plan_top.specs.own.Causes.{no_request}
+use Rattle.plan_top.specs.Causes.{no_request}
 use Rattle.requests.specs.Seen.{seen}
 use Rattle.plan_top.proofs.Told.{one_unless}
 use Rattle.plan_top.proofs.decide.decide.Goals as goal

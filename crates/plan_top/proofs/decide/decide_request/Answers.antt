@@ -8,7 +8,7 @@ use Rattle.requests.specs.declared.request.Request.{Request}
 use Rattle.requests.specs.declared.request.Request.TheVariants.{Plan, Check, Ground, Order, Gen, Prove, Verify, Batch}
 use Rattle.input_files.specs.Limits.{file_at}
 use Rattle.input_files.specs.Files.{AreTaken, AreTakenOrLong, FaultsFrom, StopsFrom}
-use Rattle.plan_top.specs.own.Causes.{Comes, of_one, stopped}
+use Rattle.plan_top.specs.Causes.{Comes, of_one, stopped}
 use Rattle.plan_top.specs.own.Parts.{IsBatch, AnswersBatch}
 use Rattle.plan_top.proofs.Batches.{files_fit, request_comes, request_unread}
 use Rattle.plan_top.proofs.Told.{taken_comes}

@@ -1,6 +1,6 @@
 use Rattle.std.proofs.Common.{[], ◌∷◌, map, codes}
 use Rattle.requests.specs.Arguments.{many_words, option, rule_for, word}
-use Rattle.requests.specs.own.Command.{race_options}
+use Rattle.requests.specs.Command.{race_options}
 use Rattle.requests.proofs.Chain.{three_added}
 use Rattle.requests.proofs.command.put_batching.Goals as goal
 

@@ -2,7 +2,7 @@ use Rattle.std.proofs.Common.{[], ◌∷◌, map, codes}
 use Rattle.std.specs.Prelude.{pos}
 use Rattle.clap.specs.declared.builder.value_parser.ValueParser.TheVariants as reader
 use Rattle.requests.specs.Arguments.{option, reading_word, rule_for}
-use Rattle.requests.specs.own.Command.{options}
+use Rattle.requests.specs.Command.{options}
 use Rattle.requests.proofs.Chain.{three_added}
 use Rattle.requests.proofs.command.put_generating.Goals as goal
 

@@ -5,7 +5,7 @@ use Rattle.clap.specs.Walk.{Row}
 use Rattle.requests.proofs.published.Commands.{asked, unasked}
 use Rattle.requests.specs.Fit.{IsFit}
 use Rattle.requests.specs.Passed.{Passed}
-use Rattle.requests.specs.own.Command.{command_of, lists}
+use Rattle.requests.specs.Command.{command_of, lists}
 use Rattle.requests.specs.Seen.{counted, seen, seen_in}
 use Rattle.requests.proofs.Fit.{fit, numbers_of}
 use Rattle.requests.proofs.SameReaders.{as_lists}

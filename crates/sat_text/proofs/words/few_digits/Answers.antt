@@ -1,5 +1,5 @@
 use Rattle.std.proofs.Common.{arith, refl}
-use Rattle.sat_text.specs.own.Words.{value_of}
+use Rattle.sat_text.specs.Words.{value_of}
 use Rattle.sat_text.proofs.Digits.{few_fit}
 use Rattle.sat_text.proofs.words.few_digits.Goals as goal
 

@@ -1,6 +1,6 @@
 use Rattle.std.proofs.Common.{◌≡◌, ◌<◌, length}
 use Rattle.sat_text.specs.own.Cut.{digits_front, after_digits}
-use Rattle.sat_text.specs.own.Words.{value_with}
+use Rattle.sat_text.specs.Words.{value_with}
 use Rattle.sat_text.proofs.words.more_digits.Given as goal
 
 abbrev pub invariant-loop-digit : goal.invariant-loop-digit

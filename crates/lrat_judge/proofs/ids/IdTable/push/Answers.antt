@@ -1,5 +1,5 @@
 use Rattle.std.proofs.Common.{arith, rules, ◌≡◌, length}
-use Rattle.lrat_judge.specs.own.Ids.{Rises}
+use Rattle.lrat_judge.specs.Ids.{Rises}
 use Rattle.lrat_judge.proofs.Places.{added_dense, follow_more}
 use Rattle.lrat_judge.proofs.ids.IdTable.push.Goals as goal
 

@@ -1,7 +1,7 @@
 use Rattle.std.proofs.Common.{◌≡◌, ◌∙◌, Bool, true, sym, ap, Ok, subst, arith, rules}
 use Rattle.sat_text.specs.LratLine.{line_of}
 use Rattle.lrat_judge.specs.Judged.{Judged}
-use Rattle.lrat_judge.specs.own.Follow.{follow}
+use Rattle.lrat_judge.specs.Follow.{follow}
 use Rattle.lrat_judge.specs.Reached.{IsBefore, Stands}
 use Rattle.lrat_judge.proofs.Taking.{syntax_comes, rejected_comes, refuted_comes, more_comes}
 use Rattle.clause_base.specs.Formula.{Cnf, IsUnsatisfiable}

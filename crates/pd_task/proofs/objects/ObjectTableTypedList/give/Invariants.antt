@@ -1,5 +1,5 @@
 use Rattle.std.proofs.Common.{◌≡◌, drop}
-use Rattle.pd_task.specs.own.Declarations.{give_objects}
+use Rattle.pd_task.specs.Declarations.{give_objects}
 use Rattle.pd_task.proofs.objects.ObjectTableTypedList.give.Given as goal
 
 abbrev pub invariant-loop-word : goal.invariant-loop-word

@@ -1,5 +1,5 @@
 use Rattle.std.proofs.Common.{◌∙◌, sym, ap}
-use Rattle.sat_text.specs.own.Words.{first_number}
+use Rattle.sat_text.specs.Words.{first_number}
 use Rattle.sat_text.proofs.LineLaws.{line_none, line_minus, read_so}
 use Rattle.sat_text.proofs.lrat_line.Line.read.Goals as goal
 

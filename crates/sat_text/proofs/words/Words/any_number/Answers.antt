@@ -1,7 +1,7 @@
 use Rattle.std.proofs.Common.{◌∙◌, ◌<◌, ℕ, List, true, false, drop, length, option_map, sym, ap, subst}
 use Rattle.std.specs.Prelude.{option_and_then}
 use Rattle.sat_text.specs.declared.words.Signed.{Signed}
-use Rattle.sat_text.specs.own.Words.{words_of, first_number, negative}
+use Rattle.sat_text.specs.Words.{words_of, first_number, negative}
 use Rattle.sat_text.proofs.WordsLaws.{plain_number, plain_after, minus_number, minus_after, negative_some, fewer_words, words_after_blanks}
 use Rattle.sat_text.proofs.words.Words.any_number.Goals as goal
 

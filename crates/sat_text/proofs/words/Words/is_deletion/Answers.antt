@@ -1,5 +1,5 @@
 use Rattle.std.proofs.Common.{◌∙◌, drop, codes, sym, ap}
-use Rattle.sat_text.specs.own.Words.{begins_with}
+use Rattle.sat_text.specs.Words.{begins_with}
 use Rattle.sat_text.proofs.WordsLaws.{letter, no_letter, longer_word}
 use Rattle.sat_text.proofs.words.Words.is_deletion.Goals as goal
 

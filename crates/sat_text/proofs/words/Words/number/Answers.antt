@@ -1,5 +1,5 @@
 use Rattle.std.proofs.Common.{◌∙◌, ◌<◌, ℕ, List, false, drop, length, sym, ap, subst}
-use Rattle.sat_text.specs.own.Words.{first_number}
+use Rattle.sat_text.specs.Words.{first_number}
 use Rattle.sat_text.proofs.FewDigits.{short_first, short_passed}
 use Rattle.sat_text.proofs.WordsLaws.{fewer_words}
 use Rattle.sat_text.proofs.words.Words.number.Goals as goal

@@ -1,4 +1,0 @@
-pub mod Numbered
-pub mod Head
-pub mod Corridor
-pub mod Gripper
