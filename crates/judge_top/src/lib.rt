@@ -1,7 +1,7 @@
 //! The judge's top call: from the words of a command line, the bytes of files and a proof by whatever solver to an answer and an exit
 //! status.
 //!
-//! `specs/own/Headline.antt` says what is promised, and `specs/own/Causes.antt` when each answer comes.
+//! `specs/Headline.antt` says what is promised, and `specs/Causes.antt` when each answer comes.
 //!
 //! `read` reads the words. `decide` takes the two files, grounds the task and builds the formula of the horizon (`formula`), and either gives it as
 //! text (`told`) or hands the proof, piece by piece as a `Tape` gives it, to lrat_judge (`verdict`). In memory are the formula, what was learned,

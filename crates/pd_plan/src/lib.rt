@@ -2,7 +2,7 @@
 //!
 //! A plan file is a sequence of lists `(name object ..)`, with blanks and comments between the tokens, as in
 //! a domain or a problem. Other lines than calls are comments, so that a planner's report is a plan file.
-//! `specs/own/WordLists.antt` says which lists of words the bytes are, `specs/PlanFile.antt` which calls these
+//! `specs/WordLists.antt` says which lists of words the bytes are, `specs/PlanFile.antt` which calls these
 //! spell, and which fault comes first.
 #![tactic(auto)]
 

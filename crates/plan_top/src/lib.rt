@@ -2,7 +2,7 @@
 //! exit status.
 //!
 //! `top` has the top call, `decide` the ending of a run, `batch` the command `batch`, with `parts` (its problems before their races) and `races`.
-//! `specs/own/Causes.antt` says when each ending comes, and `proofs/Promises.antt` that the promises follow from that cause.
+//! `specs/Causes.antt` says when each ending comes, and `proofs/Promises.antt` that the promises follow from that cause.
 #![tactic(auto)]
 
 mod batch;
