@@ -1,6 +1,6 @@
 //! Formulas, clause by clause: those of exists-steps and of all-steps of two worked tasks, and of twenty small tasks that are
 //! drawn from numbers, first under no known pair and then under all pairs that each action keeps by itself. What is due,
-//! `bench/reference/list-formulas` wrote, from the definition of the clauses alone.
+//! `bench/reference/formulas` wrote, from the definition of the clauses alone.
 
 ghost use Rattle.std.specs.Prelude.{◌≡◌, ◌≤◌, IfOk};
 ghost use Rattle.gt_core.specs.Published.{IsPublished};

@@ -1,6 +1,6 @@
 //! The published order of the large tasks of `test_kit`, their two-literal invariants, and their formulas, counted and summed up.
 //! The word `known` names `moves` where it is known that no two of the places hold together: 130,816 pairs. What is due of the robot
-//! in rooms, `bench/reference/list-large-formula` wrote, from the definition of the clauses alone. A body that gives up past some size fails there.
+//! in rooms, `bench/reference/formulas` wrote, from the definition of the clauses alone. A body that gives up past some size fails there.
 
 ghost use Rattle.std.specs.Prelude.{◌≡◌, ◌<◌, ◌≤◌, IfOk};
 
