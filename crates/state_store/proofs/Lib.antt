@@ -1,0 +1,2 @@
+pub mod PackLaw
+pub mod RowsLaw

@@ -1,0 +1,5 @@
+pub mod Packed
+pub mod Rows
+pub mod Table
+pub mod Store
+pub mod Kept
