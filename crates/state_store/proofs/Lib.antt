@@ -1,2 +1,5 @@
 pub mod PackLaw
 pub mod RowsLaw
+pub mod TreeLaw
+pub mod TableLaw
+pub mod BitLaw

@@ -65,11 +65,11 @@ head_of heads row = slice_index heads (bucket (length heads) row)
 
 -- the first rows, so many, are each where their ways lead
 pub record AreTrees (width : ℕ) (heads : List ℕ) (nodes : List Node) (rows : List (List ℕ)) (count : ℕ) : Type 0 where
-  pub nodes : length nodes ≡ count
+  pub all : length nodes ≡ count
   pub bits : (k : ℕ) → k < count → (node_at nodes k).bit < 64 * width
   pub zeros : (k : ℕ) → k < count → (node_at nodes k).zero < count
   pub ones : (k : ℕ) → k < count → (node_at nodes k).one < count
-  pub heads : (b : ℕ) → b < length heads → (slice_index heads b ≡ 4294967295) ⊎ (slice_index heads b < count)
+  pub begins : (b : ℕ) → b < length heads → (slice_index heads b ≡ 4294967295) ⊎ (slice_index heads b < count)
   pub found : (k : ℕ) (row : List ℕ) → k < count → slice_get rows k ≡ Some row → (head_of heads row < count) × ((last : ℕ) × Ends nodes row (head_of heads row) last k)
 
 -- where a row belongs: it is known, or alone in its bucket, or beside another one, from which a bit tells it

@@ -6,11 +6,12 @@
 //! has bits, however many hashes are equal.
 
 ghost use Rattle.std.specs.Prelude.{◌≡◌, ℕ, ◌+◌, ◌*◌, ◌≤◌, ◌<◌, ◌++◌, ◌∷◌, [], Some, length, slice_get, slice_set, replicate, List, IfOk, MatchOption};
-ghost use Rattle.bit_sets.specs.Rows.{row_has};
+ghost use Rattle.bit_sets.specs.Rows.{row_has, word_has};
 ghost use Rattle.state_store.specs.Table.{mixed, hash_from, bucket, link, node_at, turned, fork, beside, Ends, head_of, AreTrees, AreApart, IsSpot};
 
 use crate::pack::has;
 use crate::rows::Rows;
+use bit_sets::word::least_bit;
 use std::alloc::{AllocError, Global};
 use std::marker::Model;
 
@@ -68,6 +69,17 @@ fn bucket(size: usize, row: &[u64]) -> usize
     (((hash_of(row) >> 32) * size as u64) >> 32) as usize
 }
 
+/// A bit at which two words differ, if there is one.
+fn differing_bit(word: u64, other: u64) -> Option<u32>
+    ensures { MatchOption result (word ≡ other) (λ b. (b < 64) × (word_has word b ≡ word_has other b → ⊥)) }
+{
+    let mixed = word ^ other;
+    if mixed == 0 {
+        return None;
+    }
+    Some(least_bit(mixed))
+}
+
 /// A bit at which two rows differ, if there is one.
 fn differing(row: &[u64], other: &[u64]) -> Option<u32>
     requires width { length row.now ≡ length other.now }
@@ -75,9 +87,8 @@ fn differing(row: &[u64], other: &[u64]) -> Option<u32>
     ensures { MatchOption result (row.now ≡ other.now) (λ b. (b < 64 * length row.now) × (row_has row.now b ≡ row_has other.now b → ⊥)) }
 {
     for place in 0..row.len() {
-        let mixed = row[place] ^ other[place];
-        if mixed != 0 {
-            return Some(64 * place as u32 + mixed.trailing_zeros());
+        if let Some(bit) = differing_bit(row[place], other[place]) {
+            return Some(64 * place as u32 + bit);
         }
     }
     None
@@ -180,6 +191,45 @@ impl Table {
         })
     }
 
+    /// How many nodes there are.
+    fn count(&self) -> u32
+        requires { length self.now.nodes ≤ self.now.most }
+        ensures count { result ≡ length self.now.nodes }
+        ensures few { self.now.most ≤ 4294967295 }
+    {
+        // For the proof: a number of 32 bits is no less.
+        let _most = self.most;
+        self.nodes.len() as u32
+    }
+
+    /// The node with this number.
+    #[inline(always)]
+    fn node(&self, number: u32) -> Node
+        requires { number < length self.now.nodes }
+        ensures { node_at self.now.nodes number ≡ result }
+    {
+        self.nodes[number as usize]
+    }
+
+    /// How many buckets there are.
+    fn buckets(&self) -> usize
+        ensures buckets { result ≡ length self.now.heads }
+        ensures some { 0 < result }
+        ensures few { result ≤ 4294967295 }
+    {
+        // For the proof: a number of 32 bits is no less.
+        let _most = self.most;
+        self.heads.len()
+    }
+
+    /// The node at which a row's way begins, or `EMPTY`.
+    fn head(&self, row: &[u64]) -> u32
+        ensures head { result ≡ head_of self.now.heads row.now }
+        ensures within { bucket (length self.now.heads) row.now < length self.now.heads }
+    {
+        self.heads[bucket(self.buckets(), row)]
+    }
+
     /// The way of a row down from a node.
     fn way_from(&self, rows: &Rows, row: &[u64], head: u32) -> End
         requires trees { AreTrees rows.now.width self.now.heads self.now.nodes rows.now.rows (length self.now.nodes) }
@@ -189,7 +239,7 @@ impl Table {
     {
         let mut node = head;
         loop {
-            let next = link(self.nodes[node as usize], row);
+            let next = link(self.node(node), row);
             if next <= node {
                 return End { node, row: next };
             }
@@ -205,7 +255,7 @@ impl Table {
         requires few { rows.now.width ≤ 67108863 }
         ensures { IsSpot rows.now.width self.now.heads self.now.nodes rows.now.rows row.now result }
     {
-        let head = self.heads[bucket(self.heads.len(), row)];
+        let head = self.head(row);
         if head == EMPTY {
             return Spot::Alone;
         }
@@ -230,7 +280,7 @@ impl Table {
         ensures heads { self.new.heads ≡ self.old.heads }
         ensures most { self.new.most ≡ self.old.most }
     {
-        let number = self.nodes.len() as u32;
+        let number = self.count();
         let last = self.nodes[node as usize];
         self.nodes[node as usize] = turned(last, has(row, last.bit), number);
         self.nodes
@@ -250,7 +300,7 @@ impl Table {
         ensures heads { length self.new.heads ≡ length self.old.heads }
         ensures most { self.new.most ≡ self.old.most }
     {
-        let number = self.nodes.len() as u32;
+        let number = self.count();
         let row = rows.at(number);
         match spot {
             Spot::Known(_) => unreachable!(),
@@ -267,8 +317,8 @@ impl Table {
         ensures within { bucket (length self.old.heads) row.now < length self.old.heads }
         ensures most { self.new.most ≡ self.old.most }
     {
-        let number = self.nodes.len() as u32;
-        let bucket = bucket(self.heads.len(), row);
+        let number = self.count();
+        let bucket = bucket(self.buckets(), row);
         self.heads[bucket] = number;
         self.nodes.push_reserved(Node {
             bit: 0,

@@ -14,7 +14,7 @@ returns-clause-row c =
     let long = length-rows c.self.inside.width c.self.inside.count c.self.inside.words.items in
     rw (← c.self.view_is)
     (
-      row_at c.self.inside.width c.self.inside.count c.self.inside.words.items c.args.number (omega (arith, lt, long))
-      ∙ ap (λ (xs : List ℕ). Some (take c.self.inside.width (drop (c.args.number * c.self.inside.width) xs))) (sym c.deref.ensures.value)
-      ∙ ap Some (sym c.part.ensures.row)
+    row_at c.self.inside.width c.self.inside.count c.self.inside.words.items c.args.number (omega (arith, lt, long))
+    ∙ ap (λ (xs : List ℕ). Some (take c.self.inside.width (drop (c.args.number * c.self.inside.width) xs))) (sym c.deref.ensures.value)
+    ∙ ap Some (sym c.part.ensures.row)
     )
