@@ -3,3 +3,4 @@ pub mod RowsLaw
 pub mod TreeLaw
 pub mod TableLaw
 pub mod BitLaw
+pub mod StoreLaw

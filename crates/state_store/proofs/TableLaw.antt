@@ -253,3 +253,13 @@ pub head_within : (width : ℕ) (heads : List ℕ) (nodes : List Node) (rows : L
     → head ≡ head_of heads row → (head ≡ 4294967295 → ⊥) → head < length nodes
 head_within width heads nodes rows row head trees inside is full =
     elim (trees.begins (bucket (length heads) row) inside) [ inl e ↦ absurd (full (is ∙ e)) | inr h ↦ omega (arith, h, is) ]
+
+-- a row that has a spot and is not known is not among those in the trees
+pub absent_unless : (width : ℕ) (heads : List ℕ) (nodes : List Node) (rows : List (List ℕ)) (row : List ℕ) (spot : Spot) → AreTrees width heads nodes rows (length nodes) → length nodes ≤ 4294967295
+    → IsSpot width heads nodes rows row spot → ((k : ℕ) → spot ≡ Known k → ⊥) → (k : ℕ) → k < length nodes → slice_get rows k ≡ Some row → ⊥
+absent_unless width heads nodes rows row (Known j) trees few is not k lt at = not j refl
+absent_unless width heads nodes rows row Alone trees few is not k lt at = let h = (trees.found k row lt at).0 in omega (arith, h, is, few)
+absent_unless width heads nodes rows row (Beside node other bit) trees few is not k lt at =
+    absent width heads nodes rows row node other trees is.1
+    (λ there. let e : is.3.0 ≡ row = let s : Some is.3.0 ≡ Some row = sym is.3.1 ∙ there in cc in is.3.2 (ap (λ (xs : List ℕ). row_has xs bit) e))
+    k lt at

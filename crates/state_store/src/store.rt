@@ -1,7 +1,9 @@
 //! Stored states.
 
-ghost use Rattle.std.specs.Prelude.{◌≡◌, ◌*◌, ◌+◌, ◌/◌, ◌<◌, ◌≤◌, [], Some, length, min, slice_get, slice_index, IfOk};
+ghost use Rattle.std.specs.Prelude.{◌≡◌, ℕ, ◌*◌, ◌+◌, ◌/◌, ◌<◌, ◌≤◌, ◌++◌, ◌∷◌, [], Some, length, min, slice_get, slice_index, IfOk};
 ghost use Rattle.state_store.specs.Packed.{width_of};
+ghost use Rattle.state_store.specs.Table.{IsSpot};
+ghost use Rattle.state_store.specs.Kept.{AreKept};
 ghost use Rattle.state_store.specs.Store.{AreDistinct, IsEntered, bytes_of};
 
 use crate::pack::{pack, unpack, width_of};
@@ -37,6 +39,21 @@ pub fn most_within(facts: u32, bytes: u64) -> u32
     (bytes / bytes_of(facts)).min(4_294_967_295) as u32
 }
 
+/// Adds a row that is not there, which belongs to a spot.
+fn add_row(rows: &mut Rows, table: &mut Table, row: &[u64], spot: Spot)
+    requires kept { AreKept rows.old table.old }
+    requires room { length rows.old.rows < rows.old.most }
+    requires width { length row.now ≡ rows.old.width }
+    requires absent { (k : ℕ) → k < length rows.old.rows → slice_get rows.old.rows k ≡ Some row.now → ⊥ }
+    requires spot { IsSpot rows.old.width table.old.heads table.old.nodes rows.old.rows row.now spot }
+    ensures rows { rows.new ≡ record rows.old { rows = rows.old.rows ++ row.now ∷ [] } }
+    ensures kept { AreKept rows.new table.new }
+{
+    rows.push(row);
+    table.put(rows, spot);
+    table.grow(rows);
+}
+
 /// States of so many facts, each a truth value a fact, and for each the number of the state that it comes from, and of the action
 /// that led from there. They are numbered in the order in which they were entered, and no two are equal. All memory is taken when
 /// the store is made.
@@ -51,16 +68,16 @@ pub struct Store {
 }
 
 impl Model for Store {
-    ghost use Rattle.std.specs.Prelude.{map};
+    ghost use Rattle.std.specs.Prelude.{map, vec_capacity};
     ghost use Rattle.state_store.specs.Packed.{unpacked};
     ghost use Rattle.state_store.specs.Store.{Stored};
-    ghost use Rattle.state_store.specs.Kept.{IsKept};
+    ghost use Rattle.state_store.specs.Kept.{IsKept, HasRoom};
 
     ghost Value = { Stored };
 
     ghost view = { λ s. record { facts = s.facts; most = s.most; states = map (unpacked s.facts) s.rows.rows; parents = s.parents.items; actions = s.actions.items } };
 
-    ghost invariant = { λ s. IsKept s.facts s.most s.rows s.parents s.actions s.table s.row };
+    ghost invariant = { λ s. IsKept s.facts s.most s.rows s.parents.items s.actions.items s.table × HasRoom s.facts s.most (vec_capacity s.parents) (vec_capacity s.actions) (vec_capacity s.row) };
 }
 
 impl Drop for Store {
@@ -116,11 +133,9 @@ impl Store {
         if self.rows.len() == self.most {
             return Entered::Full;
         }
-        self.rows.push(&self.row);
+        add_row(&mut self.rows, &mut self.table, &self.row, spot);
         self.parents.push_reserved(parent);
         self.actions.push_reserved(action);
-        self.table.put(&self.rows, spot);
-        self.table.grow(&self.rows);
         Entered::New
     }
 
