@@ -1,2 +1,3 @@
 pub mod SearchLaw
 pub mod PlansLaw
+pub mod TreeLaw

@@ -1,18 +1,18 @@
 -- Stored rows as states.
-use Rattle.std.proofs.Common.{arith, ◌≡◌, ℕ, zero, suc, ◌+◌, ◌*◌, ◌<◌, ◌≤◌, List, [], ◌∷◌, ◌++◌, Bool, map, length, length-append, refl, sym, ap, ◌∙◌, subst, Option, Some, None, ◌⊎◌, inl, inr}
+use Rattle.std.proofs.Common.{arith, ◌≡◌, ℕ, zero, suc, ◌+◌, ◌<◌, ◌≤◌, List, [], ◌∷◌, ◌++◌, Bool, map, length, length-append, refl, sym, ap, ◌∙◌, subst, Some, ◌⊎◌, inl, inr}
 use Rattle.std.specs.Prelude.{slice_get}
 use Rattle.std.specs.List.{AllByRecursion}
-use Rattle.std.proofs.lemmas.Bool.{cases_lt}
-use Rattle.std.proofs.lemmas.List.{map-append, length-map, take_all}
 use Rattle.std.proofs.lemmas.Option.{slice_get_within}
 use Rattle.state_store.specs.Packed.{packed, unpacked, width_of, IsPacked}
 use Rattle.state_store.specs.declared.table.Node.{Node}
 use Rattle.state_store.specs.declared.table.Spot.{Spot}
 use Rattle.state_store.specs.declared.table.Spot.TheVariants.{Known, Alone, Beside}
 use Rattle.state_store.specs.Rows.{Block}
-use Rattle.state_store.specs.Table.{Trees, AreTrees, AreApart, IsSpot}
+use Rattle.state_store.specs.Table.{Trees, AreTrees, IsSpot}
 use Rattle.state_store.specs.Kept.{AreKept, IsKept}
-use Rattle.state_store.specs.Store.{IsAbsent, AreDistinct}
+use Rattle.state_store.specs.Store.{IsAbsent}
+use Rattle.state_store.specs.Distinct.{AreDistinct}
+use Rattle.state_store.proofs.PushedLaw.{pushed_at, pushed_before, pushed_last}
 use Rattle.state_store.proofs.PackLaw.{unpacks, is_packed, width_some, width_few}
 
 -- a state that stands at a place is what the row there stands for
@@ -48,7 +48,7 @@ none_there facts rows s all none k at =
     none k (slice_get_within rows k (packed (width_of facts) s) there) there
 
 -- where no two rows are equal no two states are
-pub distinct : (facts : ℕ) (rows : List (List ℕ)) → AllByRecursion (IsPacked facts) rows → AreApart rows → AreDistinct (map (unpacked facts) rows)
+pub distinct : (facts : ℕ) (rows : List (List ℕ)) → AllByRecursion (IsPacked facts) rows → AreDistinct rows → AreDistinct (map (unpacked facts) rows)
 distinct facts rows all apart i j s at at2 = apart i j (packed (width_of facts) s) (own_row facts rows i s all at) (own_row facts rows j s all at2)
 
 -- ---- one more row
@@ -60,23 +60,7 @@ all_push facts (r ∷ rows) row all is = (all.0, all_push facts rows row all.1 i
 pub packed_push : (facts : ℕ) (rows : List (List ℕ)) (s : List Bool) → length s ≡ facts → AllByRecursion (IsPacked facts) rows → AllByRecursion (IsPacked facts) (rows ++ packed (width_of facts) s ∷ [])
 packed_push facts rows s long all = all_push facts rows (packed (width_of facts) s) all (is_packed facts s long)
 
--- what stands at a place of a list with one more row
-pub pushed_at : (rows : List (List ℕ)) (row r : List ℕ) (k : ℕ) → slice_get (rows ++ row ∷ []) k ≡ Some r → (slice_get rows k ≡ Some r) ⊎ ((k ≡ length rows) × (r ≡ row))
-pushed_at [] row r zero at = inr (refl, cc)
-pushed_at [] row r (suc k) at = absurd (cc)
-pushed_at (x ∷ rows) row r zero at = inl at
-pushed_at (x ∷ rows) row r (suc k) at = elim (pushed_at rows row r k at) [ inl h ↦ inl h | inr h ↦ inr (let e = h.0 in omega (arith, e), h.1) ]
-
-pub pushed_before : (rows : List (List ℕ)) (row r : List ℕ) (k : ℕ) → slice_get rows k ≡ Some r → slice_get (rows ++ row ∷ []) k ≡ Some r
-pushed_before [] row r k at = absurd (cc)
-pushed_before (x ∷ rows) row r zero at = at
-pushed_before (x ∷ rows) row r (suc k) at = pushed_before rows row r k at
-
-pub pushed_last : (rows : List (List ℕ)) (row : List ℕ) → slice_get (rows ++ row ∷ []) (length rows) ≡ Some row
-pushed_last [] row = refl
-pushed_last (x ∷ rows) row = pushed_last rows row
-
-pub apart_push : (rows : List (List ℕ)) (row : List ℕ) → AreApart rows → ((k : ℕ) → k < length rows → slice_get rows k ≡ Some row → ⊥) → AreApart (rows ++ row ∷ [])
+pub apart_push : (rows : List (List ℕ)) (row : List ℕ) → AreDistinct rows → ((k : ℕ) → k < length rows → slice_get rows k ≡ Some row → ⊥) → AreDistinct (rows ++ row ∷ [])
 apart_push rows row apart none i j r at at2 = by (pushed_at rows row r i at) (pushed_at rows row r j at2)
   where
     by : (slice_get rows i ≡ Some r) ⊎ ((i ≡ length rows) × (r ≡ row)) → (slice_get rows j ≡ Some r) ⊎ ((j ≡ length rows) × (r ≡ row)) → i ≡ j
@@ -106,7 +90,7 @@ kept_new f n width block froms acts table small wide is no_froms no_acts room tr
             few = omega (arith, w, few);
             within = omega (arith, long);
             room = room ∙ sym (ap (λ (b : Block). b.most) is);
-            apart = subst AreApart (sym rows) (λ i j row at. absurd (cc));
+            apart = subst AreDistinct (sym rows) (λ i j row at. absurd (cc));
             all = none ∙ sym long;
             trees = subst (AreTrees block.width table.heads table.nodes block.rows) (sym none) (trees block.width block.rows);
           };
@@ -134,8 +118,8 @@ module _ (block now : Block) (table : Trees) (row : List ℕ) (kept : AreKept bl
   pub put_trees : AreTrees now.width table.heads table.nodes now.rows (length table.nodes)
   put_trees = subst (λ (b : Block). AreTrees b.width table.heads table.nodes b.rows (length table.nodes)) (sym is) (trees_pushed block.width table.heads table.nodes block.rows row kept.all kept.trees)
 
-  pub put_apart : ((k : ℕ) → k < length block.rows → slice_get block.rows k ≡ Some row → ⊥) → AreApart now.rows
-  put_apart none = subst (λ (b : Block). AreApart b.rows) (sym is) (apart_push block.rows row kept.apart none)
+  pub put_apart : ((k : ℕ) → k < length block.rows → slice_get block.rows k ≡ Some row → ⊥) → AreDistinct now.rows
+  put_apart none = subst (λ (b : Block). AreDistinct b.rows) (sym is) (apart_push block.rows row kept.apart none)
 
   pub put_spot : (spot : Spot) → IsSpot block.width table.heads table.nodes block.rows row spot → (r : List ℕ) → slice_get now.rows (length table.nodes) ≡ Some r → IsSpot now.width table.heads table.nodes now.rows r spot
   put_spot spot at r there =

@@ -1,16 +1,15 @@
 -- What a row more does to the trees.
-use Rattle.std.proofs.Common.{arith, ◌≡◌, ℕ, zero, suc, ◌+◌, ◌*◌, ◌<◌, ◌≤◌, List, [], ◌∷◌, ◌++◌, Bool, true, false, length, length-append, get_or, replicate, refl, sym, ap, ◌∙◌, subst, Some, ◌⊎◌, inl, inr}
-use Rattle.std.specs.Prelude.{slice_get, slice_set, slice_index, slice_index_or, if◌then◌else◌}
+use Rattle.std.proofs.Common.{arith, ◌≡◌, ℕ, zero, suc, ◌+◌, ◌*◌, ◌<◌, ◌≤◌, List, [], ◌∷◌, ◌++◌, Bool, true, false, length, length-append, replicate, refl, sym, ap, ◌∙◌, subst, Some, ◌⊎◌, inl, inr}
+use Rattle.std.specs.Prelude.{slice_get, slice_set, slice_index, if◌then◌else◌}
 use Rattle.std.proofs.lemmas.Bool.{cases_lt}
-use Rattle.std.proofs.lemmas.List.{length-set, get_or-set_same, get_or-set_other, get_or-replicate}
-use Rattle.std.proofs.lemmas.Option.{slice_get_within}
+use Rattle.std.proofs.lemmas.List.{length-set, get_or-set_same, get_or-set_other}
 use Rattle.std.proofs.Math.ListN.{get_or-append}
 use Rattle.std.proofs.Math.Seq.{get_or-append_seam}
 use Rattle.bit_sets.specs.Rows.{row_has}
 use Rattle.state_store.specs.declared.table.Node.{Node}
 use Rattle.state_store.specs.declared.table.Spot.{Spot}
 use Rattle.state_store.specs.declared.table.Spot.TheVariants.{Known, Alone, Beside}
-use Rattle.state_store.specs.Table.{link, node_at, turned, fork, beside, GoesBy, Ends, head_of, bucket, AreTrees, AreApart, IsSpot}
+use Rattle.state_store.specs.Table.{link, node_at, turned, fork, beside, GoesBy, Ends, head_of, bucket, AreTrees, IsSpot}
 use Rattle.state_store.proofs.TreeLaw.{same_or_apart, link_within, ends_same, ends_here, ends_once, length-beside, elsewhere, here, newest, still_goes, own_goes}
 
 -- ---- no rows

@@ -1,14 +1,12 @@
 -- The way of a row through the nodes, and what one more node does to it.
-use Rattle.std.proofs.Common.{arith, ◌≡◌, ℕ, zero, suc, ◌+◌, ◌*◌, ◌<◌, ◌≤◌, List, [], ◌∷◌, ◌++◌, Bool, true, false, length, length-append, get_or, set, refl, sym, ap, ◌∙◌, subst, Some, ◌⊎◌, inl, inr}
-use Rattle.std.specs.Prelude.{slice_get, slice_set, slice_index, slice_index_or, if◌then◌else◌}
-use Rattle.std.proofs.lemmas.Bool.{both_ways}
+use Rattle.std.proofs.Common.{arith, ◌≡◌, ℕ, ◌+◌, ◌<◌, ◌≤◌, List, [], ◌∷◌, Bool, true, false, length, length-append, refl, sym, ap, ◌∙◌, subst, ◌⊎◌, inl, inr}
+use Rattle.std.specs.Prelude.{slice_set, if◌then◌else◌}
 use Rattle.std.proofs.lemmas.List.{length-set, get_or-set_same, get_or-set_other}
-use Rattle.std.proofs.lemmas.Option.{slice_get_within}
 use Rattle.std.proofs.Math.ListN.{get_or-append}
 use Rattle.std.proofs.Math.Seq.{get_or-append_seam}
 use Rattle.bit_sets.specs.Rows.{row_has}
 use Rattle.state_store.specs.declared.table.Node.{Node}
-use Rattle.state_store.specs.Table.{link, node_at, turned, fork, beside, GoesBy, Ends, head_of, bucket, AreTrees, IsSpot}
+use Rattle.state_store.specs.Table.{link, node_at, turned, fork, beside, GoesBy, Ends, AreTrees}
 
 pub same_or_apart : (m n : ℕ) → (m ≡ n) ⊎ (m ≡ n → ⊥)
 same_or_apart m n = grind arith

@@ -3,7 +3,8 @@ use Rattle.std.specs.Prelude.{◌≡◌, ℕ, ◌<◌, ◌≤◌, List, length}
 use Rattle.std.specs.List.{AllByRecursion}
 use Rattle.state_store.specs.Packed.{IsPacked, width_of}
 use Rattle.state_store.specs.Rows.{Block}
-use Rattle.state_store.specs.Table.{Trees, AreTrees, AreApart}
+use Rattle.state_store.specs.Table.{Trees, AreTrees}
+use Rattle.state_store.specs.Distinct.{AreDistinct}
 
 -- rows of which no two are equal, all of which are in the table
 pub record AreKept (block : Block) (table : Trees) : Type 0 where
@@ -11,7 +12,7 @@ pub record AreKept (block : Block) (table : Trees) : Type 0 where
   pub few : block.width ≤ 67108863
   pub within : length block.rows ≤ block.most
   pub room : table.most ≡ block.most
-  pub apart : AreApart block.rows
+  pub apart : AreDistinct block.rows
   pub all : length table.nodes ≡ length block.rows
   pub trees : AreTrees block.width table.heads table.nodes block.rows (length table.nodes)
 

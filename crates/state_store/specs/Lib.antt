@@ -1,4 +1,5 @@
 pub mod Packed
+pub mod Distinct
 pub mod Rows
 pub mod Table
 pub mod Store

@@ -17,10 +17,6 @@ pub record Stored : Type 0 where
 abbrev pub IsAbsent : List (List Bool) → List Bool → Type 0
 IsAbsent states s = (k : ℕ) → slice_get states k ≡ Some s → ⊥
 
--- no two places of a list have the same state
-abbrev pub AreDistinct : List (List Bool) → Type 0
-AreDistinct states = (i j : ℕ) (s : List Bool) → slice_get states i ≡ Some s → slice_get states j ≡ Some s → i ≡ j
-
 -- one more state
 abbrev pub with_state : Stored → List Bool → ℕ → ℕ → Stored
 with_state st s parent action = record st { states = st.states ++ s ∷ []; parents = st.parents ++ parent ∷ []; actions = st.actions ++ action ∷ [] }

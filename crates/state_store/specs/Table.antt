@@ -46,10 +46,6 @@ beside nodes row node other bit =
     slice_set nodes node (turned (node_at nodes node) (row_has row (node_at nodes node).bit) (length nodes))
     ++ fork bit (row_has row bit) (length nodes) other ∷ []
 
--- no two places of a list have the same row
-abbrev pub AreApart : List (List ℕ) → Type 0
-AreApart rows = (i j : ℕ) (row : List ℕ) → slice_get rows i ≡ Some row → slice_get rows j ≡ Some row → i ≡ j
-
 -- A row's way down from a node: a link to a greater number leads to the node with this number, any other one to the row with this
 -- number. `last` is the node at which the way ends, `leaf` the row to which it leads.
 abbrev pub GoesBy : List Node → List ℕ → ℕ → List ℕ → ℕ → ℕ → Type 0

@@ -4,7 +4,8 @@ ghost use Rattle.std.specs.Prelude.{◌≡◌, ℕ, ◌*◌, ◌+◌, ◌/◌, �
 ghost use Rattle.state_store.specs.Packed.{width_of};
 ghost use Rattle.state_store.specs.Table.{IsSpot};
 ghost use Rattle.state_store.specs.Kept.{AreKept};
-ghost use Rattle.state_store.specs.Store.{AreDistinct, IsEntered, bytes_of};
+ghost use Rattle.state_store.specs.Distinct.{AreDistinct};
+ghost use Rattle.state_store.specs.Store.{IsEntered, bytes_of};
 
 use crate::pack::{pack, unpack, width_of};
 use crate::rows::Rows;

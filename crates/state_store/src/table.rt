@@ -7,7 +7,8 @@
 
 ghost use Rattle.std.specs.Prelude.{◌≡◌, ℕ, ◌+◌, ◌*◌, ◌≤◌, ◌<◌, ◌++◌, ◌∷◌, [], Some, length, slice_get, slice_set, replicate, List, IfOk, MatchOption};
 ghost use Rattle.bit_sets.specs.Rows.{row_has, word_has};
-ghost use Rattle.state_store.specs.Table.{mixed, hash_from, bucket, link, node_at, turned, fork, beside, Ends, head_of, AreTrees, AreApart, IsSpot};
+ghost use Rattle.state_store.specs.Table.{mixed, hash_from, bucket, link, node_at, turned, fork, beside, Ends, head_of, AreTrees, IsSpot};
+ghost use Rattle.state_store.specs.Distinct.{AreDistinct};
 
 use crate::pack::has;
 use crate::rows::Rows;
@@ -292,7 +293,7 @@ impl Table {
         requires trees { AreTrees rows.now.width self.old.heads self.old.nodes rows.now.rows (length self.old.nodes) }
         requires row { length self.old.nodes < length rows.now.rows }
         requires most { length rows.now.rows ≤ self.old.most }
-        requires distinct { AreApart rows.now.rows }
+        requires distinct { AreDistinct rows.now.rows }
         requires spot { (row : List ℕ) → slice_get rows.now.rows (length self.old.nodes) ≡ Some row → IsSpot rows.now.width self.old.heads self.old.nodes rows.now.rows row spot }
         requires width { 0 < rows.now.width }
         ensures trees { AreTrees rows.now.width self.new.heads self.new.nodes rows.now.rows (length self.new.nodes) }
@@ -345,7 +346,7 @@ impl Table {
         requires trees { AreTrees rows.now.width self.old.heads self.old.nodes rows.now.rows (length self.old.nodes) }
         requires all { length self.old.nodes ≡ length rows.now.rows }
         requires most { length rows.now.rows ≤ self.old.most }
-        requires distinct { AreApart rows.now.rows }
+        requires distinct { AreDistinct rows.now.rows }
         requires some { 0 < rows.now.width }
         requires few { rows.now.width ≤ 67108863 }
         ensures trees { AreTrees rows.now.width self.new.heads self.new.nodes rows.now.rows (length self.new.nodes) }

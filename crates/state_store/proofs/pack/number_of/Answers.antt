@@ -1,4 +1,4 @@
-use Rattle.std.proofs.Common.{arith, ◌≡◌, ◌≤◌, ◌-◌, ◌<◌, ◌^◌, get_or, false, length, drop}
+use Rattle.std.proofs.Common.{arith, ◌-◌, get_or, false, drop}
 use Rattle.std.proofs.lemmas.List.{length-drop}
 use Rattle.state_store.proofs.PackLaw.{number_small, digit_small}
 use Rattle.state_store.proofs.pack.number_of.Goals as goal

@@ -1,4 +1,4 @@
-use Rattle.std.proofs.Common.{arith, ◌≡◌, ◌∙◌, ap, min, take, drop, length}
+use Rattle.std.proofs.Common.{arith, ◌∙◌, ap, take, drop}
 use Rattle.state_store.proofs.PackLaw.{pack_more}
 use Rattle.state_store.proofs.pack.pack.Goals as goal
 

@@ -1,4 +1,4 @@
-use Rattle.std.proofs.Common.{arith, ◌≡◌, false}
+use Rattle.std.proofs.Common.{arith, false}
 use Rattle.std.proofs.lemmas.List.FromFn.{fill_by_all}
 use Rattle.bit_sets.specs.Rows.{row_has}
 use Rattle.state_store.proofs.pack.unpack.Goals as goal

@@ -1,4 +1,4 @@
-use Rattle.std.proofs.Common.{arith, ◌≡◌, ◌∙◌, ap, sym}
+use Rattle.std.proofs.Common.{arith, ◌∙◌, sym}
 use Rattle.state_store.proofs.StoreLaw.{put_trees, put_apart, put_spot, long_now, same_width, same_most}
 use Rattle.state_store.proofs.store.add_row.Goals as goal
 

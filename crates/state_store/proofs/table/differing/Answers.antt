@@ -1,6 +1,5 @@
-use Rattle.std.proofs.Common.{arith, ◌≡◌, ◌<◌, get_or}
+use Rattle.std.proofs.Common.{arith}
 use Rattle.std.proofs.lemmas.Grind.{same_number_lists}
-use Rattle.state_store.proofs.BitLaw.{differ_at}
 use Rattle.state_store.proofs.table.differing.Goals as goal
 
 pub returns : goal.returns

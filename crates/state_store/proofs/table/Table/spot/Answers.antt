@@ -1,5 +1,4 @@
-use Rattle.std.proofs.Common.{arith, ◌≡◌, ◌<◌, ◌∙◌, ap, length, sym, subst, List, ℕ, Some}
-use Rattle.state_store.specs.Table.{head_of, Ends}
+use Rattle.std.proofs.Common.{arith, ◌∙◌, ap, Some}
 use Rattle.state_store.proofs.TableLaw.{end_within, head_within}
 use Rattle.state_store.proofs.table.Table.spot.Goals as goal
 
