@@ -12,20 +12,18 @@ use Rattle.state_search.specs.declared.walk.Proposed.TheVariants.{Unable, Known,
 -- the stored states of a walk through a task: states of its facts, and a tree from the initial one
 pub record IsWalk (task : Task) (st : Stored) : Type 0 where
   pub facts : st.facts ≡ task.facts
+  pub parents : length st.parents ≡ length st.states
+  pub actions : length st.actions ≡ length st.states
   pub tree : IsTree task st.states st.parents st.actions
-
--- the state after an action in a state is listed
-abbrev pub LeadsToListed : Task → List (List Bool) → List Bool → ℕ → Type 0
-LeadsToListed task states s a = Runs task (state_of s) a → IsListed states (next_values task (state_of s) a)
 
 -- none of the states is a goal
 abbrev pub HasNoGoal : Task → List (List Bool) → Type 0
 HasNoGoal task states = (k : ℕ) (s : List Bool) → slice_get states k ≡ Some s → IsGoal task (state_of s) → ⊥
 
--- What came of an action that was proposed in a state: it cannot run there, or leads to a known state, or to a new one, which was
--- entered; or to one for which there is no room.
+-- What came of an action in a stored state: it cannot run there, or leads to a known state, or to a new one, which was entered; or
+-- to one for which there is no room.
 abbrev pub IsProposed : Task → Stored → Stored → ℕ → List Bool → ℕ → Proposed → Type 0
 IsProposed task old new parent s a Unable = (new ≡ old) × (Runs task (state_of s) a → ⊥)
 IsProposed task old new parent s a Known = (new ≡ old) × IsListed old.states (next_values task (state_of s) a)
-IsProposed task old new parent s a Entered = IsAbsent old.states (next_values task (state_of s) a) × Runs task (state_of s) a × (new ≡ with_state old (next_values task (state_of s) a) parent a)
+IsProposed task old new parent s a Entered = Runs task (state_of s) a × (new ≡ with_state old (next_values task (state_of s) a) parent a)
 IsProposed task old new parent s a Full = (new ≡ old) × (length old.states ≡ old.most)

@@ -1,6 +1,13 @@
 //! What a walk answers.
 
+ghost use Rattle.std.specs.Prelude.{◌≡◌, length};
+ghost use Rattle.state_search.specs.Answer.{IsAnswer, IsEnd};
+ghost use Rattle.state_search.specs.Walk.{IsWalk};
+
 use containers::ListOf;
+use gt_core::task::Task;
+use search_laws::laws::laws;
+use state_store::store::Store;
 
 /// Numbers of actions, which run one after the other.
 pub type Actions = ListOf<u32>;
@@ -18,4 +25,20 @@ pub enum End {
 pub struct Answer {
     pub states: u32,
     pub end: End,
+}
+
+/// The answer of a walk that ended so.
+pub(crate) fn answer_of(task: &Task, store: &Store, end: End) -> Answer
+    requires walk { IsWalk task.now store.now }
+    requires ends { IsEnd task.now store.now.most (length store.now.states) end }
+    ensures answer { IsAnswer task.now store.now.most result }
+    ensures end { result.end ≡ end }
+{
+    laws();
+    // For the proof: the task is lawful.
+    let _facts = task.facts();
+    Answer {
+        states: store.len(),
+        end,
+    }
 }

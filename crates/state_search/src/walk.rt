@@ -1,17 +1,16 @@
-//! A walk's states, into which actions lead that were proposed.
+//! States that a walk has entered, and what an action that is proposed adds to them.
 
-ghost use Rattle.std.specs.Prelude.{◌≡◌, ℕ, ◌<◌, ◌≤◌, [], Some, length, slice_get, IfOk, OnTrue};
-ghost use Rattle.gt_core.specs.Literal.{state_of, all_hold};
+ghost use Rattle.std.specs.Prelude.{◌≡◌, ◌<◌, ◌∷◌, [], Some, true, false, length, slice_get, IfOk};
+ghost use Rattle.gt_core.specs.Literal.{state_of};
 ghost use Rattle.gt_core.specs.Execution.{IsGoal, next_values};
 ghost use Rattle.state_search.specs.Walk.{IsWalk, IsProposed};
+ghost use Rattle.state_search.specs.declared.walk.Proposed.TheVariants.{Entered};
 
-use containers::let_go;
 use containers::memory::Memory;
 use gt_core::task::Task;
 use state_store::store;
 use state_store::store::Store;
 use std::alloc::Global;
-use std::marker::Model;
 
 /// What came of an action that was proposed: it cannot run there, or leads to a known state, or to a new one, which was entered
 /// as the last one; or to one for which there is no room.
@@ -38,47 +37,45 @@ pub fn is_goal(task: &Task, state: &[bool]) -> bool
     !task.hopeless()
 }
 
-/// The states that a walk has entered, and room for two. Contracts see the states, with where each comes from.
-pub struct Walk {
-    store: Store,
-    before: Vec<bool>,
-    after: Vec<bool>,
-}
-
-impl Model for Walk {
-    ghost use Rattle.std.specs.Prelude.{◌≡◌, length};
-    ghost use Rattle.state_store.specs.Store.{Stored};
-
-    ghost Value = { Stored };
-
-    ghost view = { λ w. w.store };
-
-    ghost invariant = { λ w. (length w.before.items ≡ w.store.facts) × (length w.after.items ≡ w.store.facts) };
-}
-
-impl Drop for Walk {
-    fn drop(self) {
-        let_go!(self: Walk { store, before, after });
+/// What comes of an action in a stored state, which is `before`. Where the action leads to a state that is entered, `after` becomes
+/// that state.
+pub fn propose(
+    task: &Task,
+    store: &mut Store,
+    before: &[bool],
+    after: &mut [bool],
+    parent: u32,
+    act: u32,
+) -> Proposed
+    requires walk { IsWalk task.now store.old }
+    requires parent { slice_get store.old.states parent ≡ Some before.now }
+    requires before { length before.now ≡ task.now.facts }
+    requires after { length after.old ≡ task.now.facts }
+    requires act { act < length task.now.actions }
+    ensures proposed { IsProposed task.now store.old store.new parent before.now act result }
+    ensures walk { IsWalk task.now store.new }
+    ensures after { result ≡ Entered → after.new ≡ next_values task.now (state_of before.now) act }
+    ensures long { length after.new ≡ length after.old }
+{
+    if !task.next(before, act, after) {
+        return Proposed::Unable;
+    }
+    match store.enter(after, parent, act) {
+        store::Entered::Known(_) => Proposed::Known,
+        store::Entered::New => Proposed::Entered,
+        store::Entered::Full => Proposed::Full,
     }
 }
 
-impl Walk {
-    ghost use Rattle.state_store.specs.Store.{Stored};
-
-    /// A walk that has entered the initial state alone, with room for so many states.
-    pub fn new(alloc: Global, task: &Task, most: u32) -> Result<Walk, Memory>
-        requires { 0 < most }
-        ensures walk { IfOk result (λ w. IsWalk task.now w) }
-        ensures first { IfOk result (λ w. w.states ≡ task.now.initial ∷ []) }
-        ensures most { IfOk result (λ w. w.most ≡ most) }
-    {
-        let facts = task.facts();
-        let mut store = Store::new(alloc, facts, most)?;
-        store.enter(task.init(), 0, 0);
-        Ok(Walk {
-            store,
-            before: vec![in alloc; false; facts as usize]?,
-            after: vec![in alloc; false; facts as usize]?,
-        })
-    }
+/// A store that has the initial state alone, with room for so many.
+pub fn first_of(alloc: Global, task: &Task, most: u32) -> Result<Store, Memory>
+    requires { 0 < most }
+    ensures walk { IfOk result (λ st. IsWalk task.now st) }
+    ensures first { IfOk result (λ st. st.states ≡ task.now.initial ∷ []) }
+    ensures parents { IfOk result (λ st. st.parents ≡ 0 ∷ []) }
+    ensures most { IfOk result (λ st. st.most ≡ most) }
+{
+    let mut store = Store::new(alloc, task.facts(), most)?;
+    store.enter(task.init(), 0, 0);
+    Ok(store)
 }

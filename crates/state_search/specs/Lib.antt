@@ -1,0 +1,4 @@
+pub mod Answer
+pub mod Walk
+pub mod Breadth
+pub mod Path
