@@ -127,16 +127,6 @@ end_timer() {
     trap - ALRM
 }
 
-# open_room: a folder for reports that are not shown yet.
-open_room() {
-    [ -z "$room" ] || return 0
-    trap end_by_signal INT QUIT TERM HUP
-    room=$(mktemp -d) && return
-    say "there is no folder for a report: $TMPDIR cannot be written"
-    status=6
-    return 1
-}
-
 # show_report: what the program wrote, on standard output. Where it cannot be written there status is 6.
 show_report() {
     cat -- "$room/report" 2>/dev/null || status=6
@@ -147,26 +137,4 @@ run_kept() {
     open_room || return
     run_program "$@" >"$room/report"
     show_report
-}
-
-# begin_plan_file: no plan of an earlier run is left, and a new one can be written there.
-begin_plan_file() {
-    leftover=$plan_file.$$
-    if [ ! -d "$plan_file" ] && rm -f -- "$plan_file" && : >"$leftover"; then
-        return
-    fi 2>/dev/null
-    say "the plan cannot be written to $plan_file"
-    exit 6
-}
-
-# end_plan_file: after status 0 the calls of the report, whole, else nothing.
-end_plan_file() {
-    if [ "$status" = 0 ]; then
-        if ! { grep '^(' "$room/report" || [ $? = 1 ]; } >"$leftover" 2>/dev/null || ! mv -f -- "$leftover" "$plan_file"; then
-            say "the plan could not be written to $plan_file"
-            status=6
-        fi
-    fi
-    rm -f -- "$leftover"
-    leftover=''
 }

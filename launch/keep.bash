@@ -1,5 +1,6 @@
 # shellcheck shell=bash disable=SC2034,SC2154 # the parts set variables for one another
 # What is kept from call to call, and where. To be read after places.bash.
+use fresh
 
 # sum_of FILE: its SHA-256.
 sum_of() {
@@ -18,10 +19,13 @@ make_place() {
 
 # keep_line PLACE NAME LINE..: keeps lines in a file of a place, whole or not at all.
 keep_line() {
+    local made
     make_place "$1" || return
-    if printf '%s\n' "${@:3}" >"$1/$2.$$" && mv -f -- "$1/$2.$$" "$1/$2"; then
+    fresh "$1/$2" || return
+    if printf '%s\n' "${@:3}" >"$made"; then
+        put_fresh "$made" "$1/$2"
         return
     fi 2>/dev/null
-    rm -f -- "$1/$2.$$"
+    rm -f -- "$made"
     return 1
 }

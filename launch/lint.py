@@ -76,6 +76,8 @@ def of_goal(task, ground):
     if not task.goal:
         yield task.problem, task.goals[0].at, "the :goal is empty: every state is one"
     first = {it.text() for it in task.init}
+    added = {it.atom.head() for action in task.actions for it in action.adds}
+    deleted = {it.atom.head() for action in task.actions for it in action.deletes}
     for atom, wanted, *_ in task.goal:
         if atom.head() == "=":
             if (atom.items[1].word == atom.items[2].word) != wanted:
@@ -83,9 +85,8 @@ def of_goal(task, ground):
             continue
         if (atom.text() in first) == wanted:
             continue
-        does = [it for action in task.actions for it in (action.adds if wanted else action.deletes)]
         word = "adds" if wanted else "deletes"
-        if not any(it.atom.head() == atom.head() for it in does):
+        if atom.head() not in (added if wanted else deleted):
             yield task.problem, atom.at, f"no action {word} {atom.text()}: the goal is never reached"
         elif ground.is_known and atom.text() not in ground.facts:
             yield task.problem, atom.at, f"no action that can be executed {word} {atom.text()}: the goal is never reached"
@@ -96,11 +97,10 @@ def held(task):
     return {it.head() for it in task.init} | {it.atom.head() for action in task.actions for it in action.adds}
 
 
-def why_never(task, action):
-    """Why an action can never be executed, where one of its parts tells it, else nothing."""
-    true = held(task)
+def why_never(task, action, true):
+    """Why an action can never be executed, where one of its parts tells it, else nothing; with the predicates that are held."""
     for it, kind in action.parameters:
-        if not task.fitting(kind):
+        if not task.has_object(kind):
             return f"there is no object of the type {kind} for {it.word}"
     for atom, wanted, *_ in action.before:
         if wanted and atom.head() not in true and atom.head() != "=":
@@ -111,16 +111,17 @@ def why_never(task, action):
 def of_actions(task, ground):
     """Warnings of actions that can never be executed, and of predicates that do nothing."""
     executed = {call[0] for call in ground.calls}
+    true = held(task)
     for action in task.actions:
-        why = why_never(task, action)
+        why = why_never(task, action, true)
         if why or (ground.is_known and action.name.word not in executed):
             because = f": {why}" if why else ""
             yield task.domain, action.name.at, f"the action {action.name.word} can never be executed in this problem{because}"
     asked = {it.atom.head() for action in task.actions for it in action.conditions if it.wanted}
     used = {it.atom.head() for action in task.actions for it in action.conditions + action.adds + action.deletes}
-    true = held(task)
+    wanted = {it.atom.head() for it in task.goal}
     for name, (at, _) in task.predicates.items():
-        if name not in used and name not in {it.atom.head() for it in task.goal}:
+        if name not in used and name not in wanted:
             yield task.domain, at.at, f"the predicate {name} stands in no action and not in the goal"
         elif name in asked and name not in true:
             why = "it is not in :init, and no action adds it"

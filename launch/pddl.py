@@ -3,18 +3,14 @@
 A byte is one letter here (Latin-1), so that an offset in the text is one in the file. Words are in small letters, as the
 planner reads them.
 """
+import bisect
 import collections
 import os
 import pathlib
 import re
 import subprocess
-import sys
 import typing
 
-from view.tell import KINDS
-
-REFUSED = re.compile(r"; refused (\w+) (domain|problem) (\d+)\n")
-UNREAD = re.compile(r"; read fault (domain|problem)\n")
 TOKEN = re.compile(r";[^\n]*|[()]|[!-'*-:<-~]+")
 
 
@@ -53,18 +49,24 @@ def place(text, at):
     return text.count("\n", 0, at) + 1, at - text.rfind("\n", 0, at)
 
 
+def line_starts(text):
+    """The offsets at which the lines of a text begin."""
+    return [0, *(it.end() for it in re.finditer("\n", text))]
+
+
 class File:
     """A file of PDDL: its path, its text and its tree."""
 
     def __init__(self, path):
         self.path = path
         self.text = pathlib.Path(path).read_bytes().decode("latin-1")
+        self.starts = line_starts(self.text)
         self.tree = read_tree(self.text)
 
     def place(self, at):
         """`path:line:column` of an offset."""
-        line, column = place(self.text, at)
-        return f"{self.path}:{line}:{column}"
+        line = bisect.bisect_right(self.starts, at)
+        return f"{self.path}:{line}:{at - self.starts[line - 1] + 1}"
 
     def sections(self, head):
         """The sections with this head."""
@@ -192,18 +194,49 @@ class Kinds:
     def __init__(self, domain, problem):
         self.parents = dict(map(pair_of, listed(domain, ":types")))
         self.objects = dict(map(pair_of, listed(domain, ":constants") + listed(problem, ":objects")))
+        self.spans = spans_of(self.parents)
+        self.taken = sorted(self.spans[it][0] for it in set(self.objects.values()) if it in self.spans)
 
     def is_under(self, kind, above):
         """Whether a type is another one or lies under it."""
-        for _ in range(len(self.parents) + 2):
-            if kind == above or above == "object":
-                return True
-            kind = self.parents.get(kind, "object")
-        return False
+        if kind == above or above == "object":
+            return True
+        if kind not in self.spans or above not in self.spans:
+            return False
+        begin, end = self.spans[above]
+        return begin <= self.spans[kind][0] < end
+
+    def has_object(self, kind):
+        """Whether an object fits a type."""
+        if kind == "object" or kind not in self.spans:
+            return bool(self.objects) if kind == "object" else kind in self.objects.values()
+        begin, end = self.spans[kind]
+        at = bisect.bisect_left(self.taken, begin)
+        return at < len(self.taken) and self.taken[at] < end
 
     def fitting(self, kind):
         """The objects that fit a type."""
         return [name for name, its in self.objects.items() if self.is_under(its, kind)]
+
+
+def spans_of(parents):
+    """Numbers of the types from front to back, so that those under a type are the ones from its own up to before its end."""
+    below = collections.defaultdict(list)
+    for kind, above in parents.items():
+        if kind != "object":
+            below[above].append(kind)
+    spans, number = {}, 0
+    waiting = [(above, False) for above in list(below) if above == "object" or above not in parents]
+    while waiting:
+        kind, is_done = waiting.pop()
+        if is_done:
+            spans[kind] = spans[kind][0], number
+        elif kind not in spans:
+            spans[kind] = number, number
+            number += 1
+            waiting.append((kind, True))
+            waiting += [(it, False) for it in below[kind]]
+    return spans
 
 
 class Ground:
@@ -228,14 +261,8 @@ class Ground:
                 self.facts.add(f"({call})")
 
     def tell(self, paths=None):
-        """Prints what the planner printed and, of a refusal, the place on standard error, in a file at one of these paths."""
+        """Prints what the planner printed, and on standard error what it comes from, in files at these paths."""
+        from messages.calls import tell_line  # (which reads this module)
+
         print(self.text, end="", flush=True)
-        paths = paths or self.paths
-        unread = UNREAD.fullmatch(self.text)
-        if unread:
-            print(f"{paths[unread[1]]}: the {unread[1]} could not be read", file=sys.stderr)
-        found = REFUSED.fullmatch(self.text)
-        if found:
-            path = paths[found[2]]
-            line, column = place(pathlib.Path(path).read_bytes().decode("latin-1"), int(found[3]))
-            print(f"{path}:{line}:{column}: {found[1]}: {KINDS[found[1]]}", file=sys.stderr)
+        tell_line(self.text.rstrip("\n"), {**self.paths, **(paths or {})}, "ground")

@@ -2,6 +2,7 @@
 # Where files may be kept: in out/ of this checkout, else in a folder of the user's own. To be read by scripts that have set
 # root. A start in bash reads places, programs, commands and watch; what it seldom needs stands in other parts, which are read
 # then.
+set +C
 . "$root/launch/ready.sh"
 
 # use PART..: reads parts of the launcher.

@@ -51,7 +51,6 @@ is_whole() {
     [[ -f $1 && -n $2 ]] || return
     why="$1 stands where no program may be executed"
     [ -x "$1" ] || return
-    has_answered "$1" "$2" "${places[@]}" && return
     use keep unpack
-    look_at "$1" "$2"
+    if has_answered "$1" "$2" "${places[@]}"; then is_same "$1" "$2"; else look_at "$1" "$2"; fi
 }

@@ -4,7 +4,8 @@
 # nothing has to be told is made by ready.sh and start.sh alone, and all other parts are read by bash.
 #
 # PROGRAM.seen has a line with the sum for each machine on which this was seen (another may have an older C library), and the
-# time stamp of the program itself: where they differ by anything, all is looked at again.
+# time stamp of the program itself: where they differ by anything, all is looked at again. The bytes themselves are compared
+# with the sum of the release at each call.
 
 # is_command WORD: it is one, and by is set to what answers it, else to nothing. launch/help/commands.txt has each with what
 # answers it: a program by its name, or a script by its path, and a program that the script needs. A program that is not there
@@ -110,9 +111,22 @@ seen_release() {
         *) is_own "$folder" && folder=$folder/$kept || continue ;;
         esac
         program=$folder/$program_name
-        [ -f "$program" ] && [ -x "$program" ] && has_answered "$program" "$kept" "$@" && return
+        [ -f "$program" ] && [ -x "$program" ] && has_answered "$program" "$kept" "$@" && has_sum "$program" "$program_name" &&
+            return
     done
     return 1
+}
+
+# has_sum PROGRAM NAME: its bytes are those of the release as they are now, by the sum that takes less time where both are told.
+has_sum() {
+    local sum name due=$kept by=sha256sum
+    if [ -r "$root/release/BLAKE2b" ] && command -v b2sum >/dev/null; then
+        while read -r sum name; do
+            [ "$name" != "$2" ] || due=$sum by=b2sum
+        done <"$root/release/BLAKE2b"
+    fi
+    sum=$($by <"$1" 2>/dev/null)
+    [ "${sum%% *}" = "$due" ]
 }
 
 # kept_sum NAME: sets kept to the SHA-256 of a program of the release. The file has a line for each, the sum and the name; a sum

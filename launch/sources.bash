@@ -41,12 +41,16 @@ is_current() {
 
 # put_program FROM TO SUM: puts a program in its place, whole or not at all, with the sum of what it was made of and its own.
 put_program() {
-    if mkdir -p -- "${2%/*}" && cp -- "$1" "$2.$$" && chmod -- 755 "$2.$$" &&
-        printf '%s\n' "$3" >"$2.sources.$$" && sum_of "$2.$$" >"$2.sha256.$$" &&
-        rm -f -- "$2.sources" && mv -f -- "$2.$$" "$2" && mv -f -- "$2.sha256.$$" "$2.sha256" &&
-        mv -f -- "$2.sources.$$" "$2.sources"; then
+    local made new=() part
+    mkdir -p -- "${2%/*}" || return
+    for part in '' .sha256 .sources; do
+        fresh "$2$part" && new+=("$made") || break
+    done
+    if [ "${#new[@]}" = 3 ] && cat -- "$1" >"${new[0]}" && sum_of "${new[0]}" >"${new[1]}" &&
+        printf '%s\n' "$3" >"${new[2]}" && rm -f -- "$2.sources" && chmod -- 755 "${new[0]}" && mv -f -T -- "${new[0]}" "$2" &&
+        put_fresh "${new[1]}" "$2.sha256" && put_fresh "${new[2]}" "$2.sources"; then
         return
     fi
-    rm -f -- "$2"*".$$"
+    [ "${#new[@]}" = 0 ] || rm -f -- "${new[@]}"
     return 1
 }

@@ -8,7 +8,7 @@ job=''
 begin_folder() {
     mkdir -p -- "$folder/task" "$folder/h" "$folder/jobs" || wrong "the folder $folder cannot be made"
     folder=$(readlink -f -- "$folder")
-    exec 9>"$folder/lock" || wrong "the folder $folder cannot be written"
+    exec 9>>"$folder/lock" || wrong "the folder $folder cannot be written"
     flock -n 9 || wrong "another call works on $folder"
     if [ -f "$folder/task/SHA256SUMS" ]; then
         is_of_task domain "$domain" && is_of_task problem "$problem" ||
@@ -24,8 +24,7 @@ begin_folder() {
         put_task || wrong "the folder $folder cannot be filled"
     fi
     printf 'first=%s\nlast=%s\nbudget=%s\nmemory=%s\nminutes=%s\nsolvers=%s\nseeds=%s\n' "$first" "$last" "$budget" "$memory" \
-        "$minutes" "$solvers" "$seeds" >"$folder/task/settings.$$" &&
-        keep_file "$folder/task/settings.$$" "$folder/task/settings" ||
+        "$minutes" "$solvers" "$seeds" | keep_text "$folder/task/settings" ||
         wrong "the folder $folder cannot be filled"
 }
 
@@ -47,13 +46,19 @@ is_of_task() {
 
 # put_task: what the jobs work on. The sums land last.
 put_task() {
-    cp -- "$domain" "$folder/task/domain" && cp -- "$problem" "$folder/task/problem" &&
-        cp -- "$program" "$folder/task/planner" && chmod -- 755 "$folder/task/planner" &&
-        { [ -z "$judge" ] || { cp -- "$judge" "$folder/task/judge" && chmod -- 755 "$folder/task/judge"; }; } &&
-        cp -- "$self" "$folder/task/spread" && cp -- "$root"/launch/{spread_jobs,spread_solvers,solvers,nap}.bash "$folder/task/" &&
-        (cd -- "$folder/task" && sha256sum domain problem planner spread ./*.bash ${judge:+judge}) \
-            >"$folder/task/sums.$$" &&
-        keep_file "$folder/task/sums.$$" "$folder/task/SHA256SUMS"
+    local part
+    put_copy "$domain" domain && put_copy "$problem" problem && put_copy "$program" planner && put_copy "$self" spread || return
+    [ -z "$judge" ] || put_copy "$judge" judge || return
+    for part in spread_jobs spread_solvers solvers nap fresh; do
+        put_copy "$root/launch/$part.bash" "$part.bash" || return
+    done
+    (set -o pipefail; cd -- "$folder/task" && sha256sum domain problem planner spread ./*.bash ${judge:+judge} |
+        keep_text "$folder/task/SHA256SUMS")
+}
+
+# put_copy FILE NAME: what the jobs run or read, under a name of its own.
+put_copy() {
+    keep_text "$folder/task/$2" <"$1" && { [[ $2 != planner && $2 != judge ]] || chmod -- +x "$folder/task/$2"; }
 }
 
 # note_results: the bounds, as all results give them; sets known by horizon to its word. What is known already is not read again.
@@ -96,8 +101,7 @@ look_first() {
 end_refused() {
     clear_progress
     say "$refusal"
-    use words faults sentences
-    tell_line "$refusal" "$domain" "$problem" '' prove
+    "$root/launch/tell.py" prove "$refusal" "domain=$domain" "problem=$problem"
     exit "$1"
 }
 
@@ -224,7 +228,7 @@ submit() {
     local k said
     rm -f -- "$folder"/jobs/[0-9]*
     for k in "${!wanted[@]}"; do
-        echo "${wanted[k]}" >"$folder/jobs/$k"
+        keep_text "$folder/jobs/$k" <<<"${wanted[k]}" || wrong "the folder $folder cannot be filled"
     done
     # shellcheck disable=SC2086 # the words for sbatch are several
     said=$(sbatch --parsable --job-name=spread --array="0-$k%$side_by_side" --mem="${memory}M" --time="$minutes" --requeue \
@@ -232,7 +236,7 @@ submit() {
         --wrap "exec bash $(quoted "$folder/task/spread") --chunk-of $(quoted "$folder") \$SLURM_ARRAY_TASK_ID") ||
         wrong "sbatch refuses the jobs"
     job=${said%%;*}
-    echo "$job" >"$folder/jobs/id.$$" && keep_file "$folder/jobs/id.$$" "$folder/jobs/id"
+    keep_text "$folder/jobs/id" <<<"$job"
     say "job $job with ${#wanted[@]} $([ -z "$solvers" ] && echo horizons || echo 'tasks, each a horizon, a solver and a seed')"
 }
 

@@ -19,11 +19,23 @@ read_settings() {
     done <"$1/task/settings"
 }
 
-# keep_file FROM TO: puts a file in its place, whole or not at all.
+# keep_file FROM TO: puts a file that was made by fresh in its place, whole or not at all.
 keep_file() {
     sync -- "$1" 2>/dev/null
-    mv -f -- "$1" "$2"
+    put_fresh "$1" "$2"
 }
+
+# keep_text FILE: puts what it reads into a file, whole or not at all.
+keep_text() {
+    local made
+    fresh "$1" || return
+    if cat >"$made"; then
+        keep_file "$made" "$1"
+        return
+    fi
+    rm -f -- "$made"
+    return 1
+} 2>/dev/null
 
 # has_result FOLDER N
 has_result() {
@@ -62,7 +74,8 @@ widen_bounds() {
 
 # keep_bounds FOLDER
 keep_bounds() {
-    printf '%s %s\n' "$least_plan" "$most_refuted" >"$1/bounds.$$" && mv -f -- "$1/bounds.$$" "$1/bounds"
+    local made
+    fresh "$1/bounds" && printf '%s %s\n' "$least_plan" "$most_refuted" >"$made" && put_fresh "$made" "$1/bounds"
 } 2>/dev/null
 
 # is_needless FOLDER N: a lower horizon has a plan, or a higher one is refuted, so this one cannot change the answer.
@@ -78,7 +91,7 @@ is_unchanged() {
 
 # lose FOLDER N WHY: why there is no result yet.
 lose() {
-    printf '%s\n' "$3" >"$1/h/$2/lost.$$" 2>/dev/null && keep_file "$1/h/$2/lost.$$" "$1/h/$2/lost"
+    keep_text "$1/h/$2/lost" <<<"$3"
 }
 
 # peak PROCESS: sets megabytes to what it has used at most so far.
@@ -109,7 +122,7 @@ stop_run() {
     [ -z "$running" ] || { kill -KILL "$running"; wait "$running"; }
     [ -z "${work-}" ] || rm -rf -- "$work"
     running='' group=''
-    rm -f -- "$1"/h/*/*".$$" "$1"/task/*".$$" "$1"/*".$$" "$1"/jobs/*".$$"
+    rm -f -- "$1"/{h/*/,task/,jobs/,}*".$$".??????
 } 2>/dev/null
 
 # run_planner FOLDER N OUT WORD..: runs the planner within the limits, and ends it where the horizon has become needless or
@@ -118,7 +131,7 @@ stop_run() {
 run_planner() {
     local folder=$1 n=$2 out=$3 ended=0 limit=$((memory * 1024 * 95 / 100)) until=$((minutes * 60 - 5)) begun=$SECONDS pause=0.02
     shift 3
-    (ulimit -v "$limit"; exec "${tie[@]}" "$folder/task/planner" "$@") >"$out" 2>/dev/null </dev/null 9>&- &
+    (ulimit -d "$limit"; exec "${tie[@]}" "$folder/task/planner" "$@") >"$out" 2>/dev/null </dev/null 9>&- &
     running=$!
     megabytes=0
     while kill -0 "$running" 2>/dev/null; do
@@ -151,7 +164,7 @@ put_result() {
         for file in "${@:5}"; do
             printf 'file=%s %s\n' "$file" "$(sha256sum <"$at/$file" | cut -d ' ' -f 1)"
         done
-    } >"$at/result.$$" 2>/dev/null && keep_file "$at/result.$$" "$at/result" && rm -f -- "$at/lost" || return
+    } | keep_text "$at/result" && rm -f -- "$at/lost" || return
     read_bounds "$1"
     widen_bounds "$2" "$3"
     keep_bounds "$1"
@@ -165,18 +178,22 @@ conflicts_told() {
 
 # run_plan FOLDER N WORD STATUS FILE: the report of the planner on this horizon alone.
 run_plan() {
-    run_planner "$1" "$2" "$1/h/$2/out.$$" plan "$1/task/domain" "$1/task/problem" --alg c --start "$2" --max-horizon "$2" \
+    local made
+    fresh "$1/h/$2/out" || return
+    run_planner "$1" "$2" "$made" plan "$1/task/domain" "$1/task/problem" --alg c --start "$2" --max-horizon "$2" \
         --width 1 --budget "$budget"
-    [ "$status" = "$4" ] && [ -n "$(conflicts_told "$1/h/$2/out.$$" "$2" "$3")" ] && keep_file "$1/h/$2/out.$$" "$1/h/$2/$5"
+    [ "$status" = "$4" ] && [ -n "$(conflicts_told "$made" "$2" "$3")" ] && keep_file "$made" "$1/h/$2/$5"
 }
 
 # run_horizon FOLDER N [BUDGET]: nothing where it is needless or done. With a budget of its own an open horizon is no result.
 # Where the task is refused, refusal is the line that says so.
 run_horizon() {
-    local folder=$1 n=$2 look=${3-} at=$1/h/$2 out=$1/h/$2/out.$$
+    local folder=$1 n=$2 look=${3-} at=$1/h/$2 made out
     mkdir -p -- "$at"
     has_result "$folder" "$n" || is_needless "$folder" "$n" && return
     is_unchanged "$folder" || { lose "$folder" "$n" 'a file of the task was changed'; return; }
+    fresh "$at/out" || { lose "$folder" "$n" 'the result could not be kept' || unkept=70; return; }
+    out=$made
     run_planner "$folder" "$n" "$out" prove "$folder/task/domain" "$folder/task/problem" "$n" --budget "${look:-$budget}"
     case $status in
     0)
@@ -185,7 +202,7 @@ run_horizon() {
         ;;
     1) run_plan "$folder" "$n" plan 0 plan && put_result "$folder" "$n" plan "$(conflicts_told "$at/plan" "$n" plan)" plan ;;
     2) [ -n "$look" ] || put_result "$folder" "$n" open "$(conflicts_told "$out" "$n" open)" ;;
-    4) run_limit "$folder" "$n" ;;
+    4) run_limit "$folder" "$n" "$out" ;;
     8) lose "$folder" "$n" memory ;;
     14) lose "$folder" "$n" time ;;
     15) ;;
@@ -196,18 +213,18 @@ run_horizon() {
     6) lose "$folder" "$n" 'the disk has no room' ;;
     *) lose "$folder" "$n" "the planner ended with status $status" ;;
     esac || lose "$folder" "$n" 'the result could not be kept' || unkept=70
-    rm -f -- "$at"/*."$$"
+    rm -f -- "$at"/*."$$".??????
 }
 
-# run_limit FOLDER N: past a limit. Where it is the length of the certificate the horizon is refuted, and a report tells so.
+# run_limit FOLDER N OUT: past a limit. Where it is the length of the certificate the horizon is refuted, and a report tells so.
 run_limit() {
     local at=$1/h/$2
-    if grep -q '^; limit file proof$' "$at/out.$$"; then
+    if grep -q '^; limit file proof$' "$3"; then
         run_plan "$1" "$2" refuted 1 report && put_result "$1" "$2" reported "$(conflicts_told "$at/report" "$2" refuted)" report
-    elif grep -q '^; limit literals' "$at/out.$$"; then
+    elif grep -q '^; limit literals' "$3"; then
         put_result "$1" "$2" limit 0
     else
-        read -r refusal <"$at/out.$$"
+        read -r refusal <"$3"
         lose "$1" "$2" "${refusal#; }"
     fi
 }

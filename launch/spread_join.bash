@@ -190,10 +190,10 @@ put_properties() {
         [ -f "$at/result" ] || continue
         as_json horizon "$n" word "${words[n]}" conflicts "$(value_of "$at/result" conflicts)" \
             budget "$(value_of "$at/result" budget)" seconds "$(value_of "$at/result" seconds)" \
-            megabytes "$(value_of "$at/result" megabytes)" >"$at/properties.json"
+            megabytes "$(value_of "$at/result" megabytes)" | keep_text "$at/properties.json" || return
     done
     as_json first "$first" last "$last" budget "$budget" plan "$found" certified "$certified" \
-        reported "$reported" status "$ends" >"$1/properties.json"
+        reported "$reported" status "$ends" | keep_text "$1/properties.json"
 }
 
 # join_results FOLDER: ends with the status of the answer.

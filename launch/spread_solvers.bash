@@ -35,7 +35,7 @@ run_unit() {
         take_unit || lose "$folder" "$n" 'the result could not be kept' || unkept=70
     fi
     rm -rf -- "$work"
-    rm -f -- "$at"/*."$$"
+    rm -f -- "$at"/*."$$".??????
 }
 
 # write_formula: the formula of the horizon. What stands in the way is kept.
@@ -103,20 +103,20 @@ take_unit() {
     20)
         { read -r told <"$work/judged"; } 2>/dev/null
         if [ "$(cat -- "$work/judge")" = 0 ] && [[ $told =~ ^'; refuted horizon '$n' entries '([0-9]+)$ ]]; then
-            cp -- "$work/proof.gz" "$at/proof.$$" && keep_file "$at/proof.$$" "$at/proof.$unit.gz" &&
+            keep_text "$at/proof.$unit.gz" <"$work/proof.gz" &&
                 put_result "$folder" "$n" refuted "${BASH_REMATCH[1]}" "proof.$unit.gz"
             return
         fi
         ;;
     10)
         if "$folder/task/judge" model "$folder/task/domain" "$folder/task/problem" "$n" "$work/out" \
-            >"$at/plan.$$" 2>/dev/null </dev/null; then
-            keep_file "$at/plan.$$" "$at/plan.$unit" && put_result "$folder" "$n" plan 0 "plan.$unit"
+            >"$work/plan" 2>/dev/null </dev/null; then
+            keep_text "$at/plan.$unit" <"$work/plan" && put_result "$folder" "$n" plan 0 "plan.$unit"
             return
         fi
         ;;
     esac
-    is_needless "$folder" "$n" || is_orphan || echo "$minutes" >"$at/open.$unit"
+    is_needless "$folder" "$n" || is_orphan || keep_text "$at/open.$unit" <<<"$minutes"
 }
 
 # need_judge: sets judge to the program of this checkout that judges.

@@ -1,13 +1,16 @@
 # shellcheck shell=bash disable=SC2034,SC2154 # the parts set variables for one another
 # Programs that are unpacked, or looked at anew. To be read after programs.bash and keep.bash.
 
+# is_same PROGRAM SUM: whether its bytes have this sum; else why is set.
+is_same() {
+    [ "$(sum_of "$1")" = "$2" ] && return
+    why="$1 has not the SHA-256 that is kept: it is not run"
+    return 1
+}
+
 # look_at PROGRAM SUM: whether its bytes have this sum and it answers here; else why is set. Sets tied.
 look_at() {
-    if [ "$(sum_of "$1")" != "$2" ]; then
-        why="$1 has not the SHA-256 that is kept: it is not run"
-        return 1
-    fi
-    answers "$1" || return
+    is_same "$1" "$2" && answers "$1" || return
     note_answered "$1" "$2"
     return 0
 }
@@ -24,14 +27,16 @@ note_answered() {
 
 # note_seen PROGRAM FILE SUM: adds a line; a file that is of another program, or that many machines have filled, is begun anew.
 note_seen() {
-    local lines=()
+    local lines=() made
     find_machine
     [[ ! -r $2 || $1 -nt $2 || $1 -ot $2 ]] || mapfile -t lines <"$2"
     [ "${#lines[@]}" -lt 64 ] || lines=()
-    if printf '%s\n' "${lines[@]}" "$tied $3 $machine" >"$2.$$" && touch -r "$1" -- "$2.$$" && mv -f -- "$2.$$" "$2"; then
+    fresh "$2" || return
+    if printf '%s\n' "${lines[@]}" "$tied $3 $machine" >"$made" && touch -r "$1" -- "$made"; then
+        put_fresh "$made" "$2"
         return
     fi
-    rm -f -- "$2.$$"
+    rm -f -- "$made"
     return 1
 } 2>/dev/null
 
@@ -83,10 +88,12 @@ is_sound() {
 
 # unpack NAME FOLDER: whole or not at all.
 unpack() {
-    if gzip -dc -- "$root/release/$1.gz" >"$2/$1.$$" && [ "$(sum_of "$2/$1.$$")" = "$kept" ] && chmod -- 755 "$2/$1.$$" &&
-        mv -f -- "$2/$1.$$" "$2/$1"; then
+    local made
+    fresh "$2/$1" || return
+    if gzip -dc -- "$root/release/$1.gz" >"$made" && [ "$(sum_of "$made")" = "$kept" ] && chmod -- 755 "$made" &&
+        mv -f -T -- "$made" "$2/$1"; then
         return
     fi
-    rm -f -- "$2/$1.$$"
+    rm -f -- "$made"
     return 1
 } 2>/dev/null

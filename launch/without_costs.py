@@ -17,13 +17,13 @@ where; 3, 5 the planner refuses a file or cannot read it, and its line is printe
 are not taken; 70 the planner does not run. But for 0 nothing is written.
 """
 import itertools
-import os
 import pathlib
 import re
 import sys
 import tempfile
 
 sys.dont_write_bytecode = True
+from keepfile import fresh_file
 from pddl import File, Ground, Kinds, NoTree, keys, typed
 
 NUMBER = re.compile(r"[0-9]+(\.[0-9]*)?\Z|\.[0-9]+\Z")
@@ -193,20 +193,26 @@ class Costs:
 
 
 def put(folder, texts):
-    """Writes texts under their names, each whole or not at all."""
+    """Writes texts under their names: all of them, or nothing where one can not be written."""
+    made = missing(folder)
     folder.mkdir(parents=True, exist_ok=True)
-    for name, text in texts.items():
-        with tempfile.NamedTemporaryFile("w", dir=folder, encoding="latin-1", newline="", delete=False) as file:
-            file.write(text)
-        os.chmod(file.name, 0o666 & ~mask())
-        os.replace(file.name, folder / name)
+    new = {}
+    try:
+        for name, text in texts.items():
+            new[name] = fresh_file(folder, text.encode("latin-1"))
+        for name, path in new.items():
+            path.replace(folder / name)
+    except OSError:
+        for path in new.values():
+            path.unlink(missing_ok=True)
+        for it in made:
+            it.rmdir()
+        raise
 
 
-def mask():
-    """The bits that new files do not get."""
-    bits = os.umask(0)
-    os.umask(bits)
-    return bits
+def missing(folder):
+    """The folders that are not there on the way to this one, the innermost first."""
+    return [it for it in (folder, *folder.parents) if not it.exists()]
 
 
 def stripped(domain, problem):
