@@ -5,8 +5,8 @@ use Rattle.gt_core.specs.Literal.{state_of, range, range_from}
 use Rattle.gt_core.specs.Task.{Task, initial_state}
 use Rattle.gt_core.specs.Lawful.{is_task}
 use Rattle.gt_core.specs.Execution.{Runs, CanRun, run, next_of_one, next_values}
-use Rattle.gt_core.proofs.Within.{lawful}
-use Rattle.gt_core.proofs.SequenceLaw.{Agree, run_agrees, run_joined, can_run_joined}
+use Rattle.gt_core.proofs.published.Within.{lawful}
+use Rattle.gt_core.proofs.published.SequenceLaw.{Agree, run_agrees, run_joined, can_run_joined}
 use Rattle.search_laws.specs.Reached.{IsReached}
 use Rattle.search_laws.specs.Tree.{IsAfter, IsTree, TreeIsReached}
 use Rattle.search_laws.proofs.SearchLaw.{at_range}

@@ -8,7 +8,7 @@ use Rattle.gt_core.specs.Task.{Task}
 use Rattle.gt_core.specs.Lawful.{is_task}
 use Rattle.gt_core.specs.Execution.{Runs, CanRun, run, next_of_one, next_values, IsGoal}
 use Rattle.gt_core.specs.Laws.{IsRunToGoal}
-use Rattle.gt_core.proofs.SequenceLaw.{Agree, run_agrees}
+use Rattle.gt_core.proofs.published.SequenceLaw.{Agree, run_agrees}
 use Rattle.state_store.specs.Store.{Stored}
 use Rattle.search_laws.specs.Tree.{IsAfter, IsTree}
 use Rattle.search_laws.proofs.SearchLaw.{next_agrees, goal_too}

@@ -1,5 +1,5 @@
 use Rattle.std.proofs.Common.{◌∙◌, ap, length}
-use Rattle.gt_core.proofs.Within.{lawful}
+use Rattle.gt_core.proofs.published.Within.{lawful}
 use Rattle.state_search.proofs.least.least.Goals as goal
 
 pub is_goal-requires : goal.is_goal-requires

@@ -1,7 +1,7 @@
 use Rattle.std.proofs.Common.{arith, ◌≡◌, ◌*◌, ◌/◌, ◌<◌, ℕ, List, length, sym, ap, subst}
 use Rattle.std.specs.Prelude.{slice_index_or}
-use Rattle.gt_core.proofs.Basics.{each_at}
-use Rattle.gt_core.proofs.Within.{lawful, literals_within, among_at}
+use Rattle.gt_core.proofs.published.Basics.{each_at}
+use Rattle.gt_core.proofs.published.Within.{lawful, literals_within, among_at}
 use Rattle.state_search.proofs.walk.is_goal.Goals as goal
 
 pub holds-requires-clause-lit : goal.holds-requires-clause-lit
