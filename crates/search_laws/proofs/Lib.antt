@@ -1,3 +1,3 @@
-pub mod SearchLaw
 pub mod PlansLaw
 pub mod TreeLaw
+pub mod published

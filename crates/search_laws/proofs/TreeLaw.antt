@@ -9,7 +9,7 @@ use Rattle.gt_core.proofs.published.Within.{lawful}
 use Rattle.gt_core.proofs.published.SequenceLaw.{Agree, run_agrees, run_joined, can_run_joined}
 use Rattle.search_laws.specs.Reached.{IsReached}
 use Rattle.search_laws.specs.Tree.{IsAfter, IsTree, TreeIsReached}
-use Rattle.search_laws.proofs.SearchLaw.{at_range}
+use Rattle.search_laws.proofs.published.SearchLaw.{at_range}
 
 -- truth values by a test, and the same by one that agrees with it
 pub map_range : (p q : ℕ → Bool) (first n : ℕ) → ((f : ℕ) → f < first + n → p f ≡ q f) → map p (range_from first n) ≡ map q (range_from first n)

@@ -7,10 +7,10 @@ use Rattle.gt_core.specs.Literal.{state_of}
 use Rattle.gt_core.specs.Task.{Task}
 use Rattle.gt_core.specs.Execution.{Runs, IsGoal, next_values}
 use Rattle.state_store.specs.Store.{Stored, with_state}
-use Rattle.state_store.proofs.PushedLaw.{pushed_at, pushed_before, pushed_last}
+use Rattle.state_store.proofs.published.PushedLaw.{pushed_at, pushed_before, pushed_last}
 use Rattle.search_laws.specs.Search.{IsListed, IsAtDepth, AreDepths, IsClosedList}
-use Rattle.state_search.specs.Walk.{IsWalk, HasNoGoal}
-use Rattle.state_search.specs.Breadth.{AreFrom, IsPassed, LeadsNear, IsBreadth, IsFound}
+use Rattle.state_search.specs.own.Walk.{IsWalk, HasNoGoal}
+use Rattle.state_search.specs.own.Breadth.{AreFrom, IsPassed, LeadsNear, IsBreadth, IsFound}
 use Rattle.state_search.proofs.WalkLaw.{walk_push, number_before, number_last}
 
 -- what is passed with one action more: what was passed, or that action

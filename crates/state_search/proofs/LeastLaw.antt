@@ -12,8 +12,8 @@ use Rattle.state_store.specs.Distinct.{AreDistinct}
 use Rattle.search_laws.specs.Search.{ClosedListIsNoPlan, DepthsHaveNoShorter}
 use Rattle.search_laws.specs.Tree.{TreeIsReached}
 use Rattle.state_search.specs.Answer.{AreEntered, HasNoRun, HasNoShorter}
-use Rattle.state_search.specs.Walk.{IsWalk}
-use Rattle.state_search.specs.Breadth.{AreFrom, IsBreadth, IsFound}
+use Rattle.state_search.specs.own.Walk.{IsWalk}
+use Rattle.state_search.specs.own.Breadth.{AreFrom, IsBreadth, IsFound}
 use Rattle.state_search.proofs.BreadthLaw.{closed_list, same_state}
 
 -- the state that was entered last is a goal

@@ -11,10 +11,10 @@ use Rattle.gt_core.specs.Laws.{IsRunToGoal}
 use Rattle.gt_core.proofs.published.SequenceLaw.{Agree, run_agrees}
 use Rattle.state_store.specs.Store.{Stored}
 use Rattle.search_laws.specs.Tree.{IsAfter, IsTree}
-use Rattle.search_laws.proofs.SearchLaw.{next_agrees, goal_too}
-use Rattle.state_search.specs.Walk.{IsWalk}
-use Rattle.state_search.specs.Path.{RunsToGoal}
-use Rattle.state_search.specs.Breadth.{AreFrom}
+use Rattle.search_laws.proofs.published.SearchLaw.{next_agrees, goal_too}
+use Rattle.state_search.specs.own.Walk.{IsWalk}
+use Rattle.state_search.specs.own.Path.{RunsToGoal}
+use Rattle.state_search.specs.own.Breadth.{AreFrom}
 
 flip : (task : Task) (s u : ℕ → Bool) → Agree task s u → Agree task u s
 flip task s u h f lt = sym (h f lt)

@@ -8,9 +8,9 @@ use Rattle.gt_core.specs.Literal.{state_of}
 use Rattle.gt_core.specs.Task.{Task}
 use Rattle.gt_core.specs.Execution.{Runs, next_values}
 use Rattle.state_store.specs.Store.{Stored, with_state}
-use Rattle.state_store.proofs.PushedLaw.{pushed_at, pushed_before, pushed_last}
+use Rattle.state_store.proofs.published.PushedLaw.{pushed_at, pushed_before, pushed_last}
 use Rattle.search_laws.specs.Tree.{IsAfter, IsTree}
-use Rattle.state_search.specs.Walk.{IsWalk}
+use Rattle.state_search.specs.own.Walk.{IsWalk}
 
 -- a number of a list with one more, before the last one and as the last one
 pub number_before : (xs : List ℕ) (x k : ℕ) → k < length xs → slice_index (xs ++ x ∷ []) k ≡ slice_index xs k

@@ -1,4 +1,2 @@
 pub mod Answer
-pub mod Walk
-pub mod Breadth
-pub mod Path
+pub mod own

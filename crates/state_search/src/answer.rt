@@ -2,7 +2,7 @@
 
 ghost use Rattle.std.specs.Prelude.{◌≡◌, length};
 ghost use Rattle.state_search.specs.Answer.{IsAnswer, IsEnd};
-ghost use Rattle.state_search.specs.Walk.{IsWalk};
+ghost use Rattle.state_search.specs.own.Walk.{IsWalk};
 
 use containers::ListOf;
 use gt_core::task::Task;

@@ -5,8 +5,8 @@
 
 ghost use Rattle.std.specs.Prelude.{◌≡◌, ◌<◌, length, slice_get, IfOk};
 ghost use Rattle.state_search.specs.Answer.{IsAnswer, IsEnd, IsLeast};
-ghost use Rattle.state_search.specs.Walk.{IsWalk};
-ghost use Rattle.state_search.specs.Breadth.{IsBreadth, IsFound, IsSwept};
+ghost use Rattle.state_search.specs.own.Walk.{IsWalk};
+ghost use Rattle.state_search.specs.own.Breadth.{IsBreadth, IsFound, IsSwept};
 
 use crate::answer::{Actions, Answer, End, answer_of};
 use crate::path::path_to;

@@ -4,8 +4,8 @@ ghost use Rattle.std.specs.Prelude.{◌≡◌, ℕ, ◌<◌, List, Bool, Some, l
 ghost use Rattle.gt_core.specs.Literal.{state_of};
 ghost use Rattle.gt_core.specs.Execution.{IsGoal};
 ghost use Rattle.gt_core.specs.Laws.{IsRunToGoal};
-ghost use Rattle.state_search.specs.Walk.{IsWalk};
-ghost use Rattle.state_search.specs.Breadth.{AreFrom};
+ghost use Rattle.state_search.specs.own.Walk.{IsWalk};
+ghost use Rattle.state_search.specs.own.Breadth.{AreFrom};
 
 use crate::answer::Actions;
 use containers::memory::Memory;

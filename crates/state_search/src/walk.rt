@@ -3,7 +3,7 @@
 ghost use Rattle.std.specs.Prelude.{◌≡◌, ◌<◌, ◌∷◌, [], Some, true, false, length, slice_get, IfOk};
 ghost use Rattle.gt_core.specs.Literal.{state_of};
 ghost use Rattle.gt_core.specs.Execution.{IsGoal, next_values};
-ghost use Rattle.state_search.specs.Walk.{IsWalk, IsProposed};
+ghost use Rattle.state_search.specs.own.Walk.{IsWalk, IsProposed};
 ghost use Rattle.state_search.specs.declared.walk.Proposed.TheVariants.{Entered};
 
 use containers::memory::Memory;

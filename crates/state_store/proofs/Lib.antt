@@ -4,4 +4,4 @@ pub mod TreeLaw
 pub mod TableLaw
 pub mod BitLaw
 pub mod StoreLaw
-pub mod PushedLaw
+pub mod published

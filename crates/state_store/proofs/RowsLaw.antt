@@ -3,7 +3,7 @@ use Rattle.std.proofs.Common.{arith, ◌≡◌, ℕ, zero, suc, ◌+◌, ◌*◌
 use Rattle.std.specs.Prelude.{slice_get}
 use Rattle.std.proofs.Math.Nat.{suc-mul, mul-le-mul_right}
 use Rattle.std.proofs.lemmas.List.{drop-append-le, take-append-le, length-drop, length-append, drop-drop, take_all}
-use Rattle.state_store.specs.Rows.{rows_of}
+use Rattle.state_store.specs.own.Rows.{rows_of}
 
 pub length-rows : (width count : ℕ) (words : List ℕ) → length (rows_of width count words) ≡ count
 length-rows width zero words = refl

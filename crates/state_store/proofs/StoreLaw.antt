@@ -3,16 +3,16 @@ use Rattle.std.proofs.Common.{arith, ◌≡◌, ℕ, zero, suc, ◌+◌, ◌<◌
 use Rattle.std.specs.Prelude.{slice_get}
 use Rattle.std.specs.List.{AllByRecursion}
 use Rattle.std.proofs.lemmas.Option.{slice_get_within}
-use Rattle.state_store.specs.Packed.{packed, unpacked, width_of, IsPacked}
+use Rattle.state_store.specs.own.Packed.{packed, unpacked, width_of, IsPacked}
 use Rattle.state_store.specs.declared.table.Node.{Node}
 use Rattle.state_store.specs.declared.table.Spot.{Spot}
 use Rattle.state_store.specs.declared.table.Spot.TheVariants.{Known, Alone, Beside}
-use Rattle.state_store.specs.Rows.{Block}
-use Rattle.state_store.specs.Table.{Trees, AreTrees, IsSpot}
-use Rattle.state_store.specs.Kept.{AreKept, IsKept}
+use Rattle.state_store.specs.own.Rows.{Block}
+use Rattle.state_store.specs.own.Table.{Trees, AreTrees, IsSpot}
+use Rattle.state_store.specs.own.Kept.{AreKept, IsKept}
 use Rattle.state_store.specs.Store.{IsAbsent}
 use Rattle.state_store.specs.Distinct.{AreDistinct}
-use Rattle.state_store.proofs.PushedLaw.{pushed_at, pushed_before, pushed_last}
+use Rattle.state_store.proofs.published.PushedLaw.{pushed_at, pushed_before, pushed_last}
 use Rattle.state_store.proofs.PackLaw.{unpacks, is_packed, width_some, width_few}
 
 -- a state that stands at a place is what the row there stands for

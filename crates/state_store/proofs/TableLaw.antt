@@ -9,7 +9,7 @@ use Rattle.bit_sets.specs.Rows.{row_has}
 use Rattle.state_store.specs.declared.table.Node.{Node}
 use Rattle.state_store.specs.declared.table.Spot.{Spot}
 use Rattle.state_store.specs.declared.table.Spot.TheVariants.{Known, Alone, Beside}
-use Rattle.state_store.specs.Table.{link, node_at, turned, fork, beside, GoesBy, Ends, head_of, bucket, AreTrees, IsSpot}
+use Rattle.state_store.specs.own.Table.{link, node_at, turned, fork, beside, GoesBy, Ends, head_of, bucket, AreTrees, IsSpot}
 use Rattle.state_store.proofs.TreeLaw.{same_or_apart, link_within, ends_same, ends_here, ends_once, length-beside, elsewhere, here, newest, still_goes, own_goes}
 
 -- ---- no rows

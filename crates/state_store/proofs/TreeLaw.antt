@@ -6,7 +6,7 @@ use Rattle.std.proofs.Math.ListN.{get_or-append}
 use Rattle.std.proofs.Math.Seq.{get_or-append_seam}
 use Rattle.bit_sets.specs.Rows.{row_has}
 use Rattle.state_store.specs.declared.table.Node.{Node}
-use Rattle.state_store.specs.Table.{link, node_at, turned, fork, beside, GoesBy, Ends, AreTrees}
+use Rattle.state_store.specs.own.Table.{link, node_at, turned, fork, beside, GoesBy, Ends, AreTrees}
 
 pub same_or_apart : (m n : ℕ) → (m ≡ n) ⊎ (m ≡ n → ⊥)
 same_or_apart m n = grind arith

@@ -1,6 +1,6 @@
 -- Stored states, and where each comes from.
 use Rattle.std.specs.Prelude.{◌≡◌, ℕ, ◌+◌, ◌*◌, ◌++◌, ◌∷◌, [], List, Bool, Some, length, slice_get}
-use Rattle.state_store.specs.Packed.{width_of}
+use Rattle.state_store.specs.own.Packed.{width_of}
 use Rattle.state_store.specs.declared.store.Entered.{Entered}
 use Rattle.state_store.specs.declared.store.Entered.TheVariants.{Known, New, Full}
 

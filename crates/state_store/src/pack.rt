@@ -2,7 +2,7 @@
 
 ghost use Rattle.std.specs.Prelude.{◌≡◌, ◌+◌, ◌*◌, ◌≤◌, ◌<◌, [], length, vec_capacity};
 ghost use Rattle.bit_sets.specs.Rows.{row_has};
-ghost use Rattle.state_store.specs.Packed.{number_of, packed, unpacked, width_of};
+ghost use Rattle.state_store.specs.own.Packed.{number_of, packed, unpacked, width_of};
 
 use bit_sets::word::has_bit;
 

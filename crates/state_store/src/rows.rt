@@ -15,7 +15,7 @@ pub(crate) struct Rows {
 
 impl Model for Rows {
     ghost use Rattle.std.specs.Prelude.{◌≡◌, ◌*◌, ◌≤◌, length, vec_capacity};
-    ghost use Rattle.state_store.specs.Rows.{Block, rows_of};
+    ghost use Rattle.state_store.specs.own.Rows.{Block, rows_of};
 
     ghost Value = { Block };
 
@@ -57,7 +57,7 @@ fn extend(words: &mut Vec<u64>, row: &[u64])
 }
 
 impl Rows {
-    ghost use Rattle.state_store.specs.Rows.{Block};
+    ghost use Rattle.state_store.specs.own.Rows.{Block};
 
     /// No rows, and room for so many.
     pub(crate) fn new(alloc: Global, width: usize, most: u32) -> Result<Rows, AllocError>

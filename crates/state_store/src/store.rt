@@ -1,9 +1,9 @@
 //! Stored states.
 
 ghost use Rattle.std.specs.Prelude.{◌≡◌, ℕ, ◌*◌, ◌+◌, ◌/◌, ◌<◌, ◌≤◌, ◌++◌, ◌∷◌, [], Some, length, min, slice_get, slice_index, IfOk};
-ghost use Rattle.state_store.specs.Packed.{width_of};
-ghost use Rattle.state_store.specs.Table.{IsSpot};
-ghost use Rattle.state_store.specs.Kept.{AreKept};
+ghost use Rattle.state_store.specs.own.Packed.{width_of};
+ghost use Rattle.state_store.specs.own.Table.{IsSpot};
+ghost use Rattle.state_store.specs.own.Kept.{AreKept};
 ghost use Rattle.state_store.specs.Distinct.{AreDistinct};
 ghost use Rattle.state_store.specs.Store.{IsEntered, bytes_of};
 
@@ -70,9 +70,9 @@ pub struct Store {
 
 impl Model for Store {
     ghost use Rattle.std.specs.Prelude.{map, vec_capacity};
-    ghost use Rattle.state_store.specs.Packed.{unpacked};
+    ghost use Rattle.state_store.specs.own.Packed.{unpacked};
     ghost use Rattle.state_store.specs.Store.{Stored};
-    ghost use Rattle.state_store.specs.Kept.{IsKept, HasRoom};
+    ghost use Rattle.state_store.specs.own.Kept.{IsKept, HasRoom};
 
     ghost Value = { Stored };
 

@@ -7,7 +7,7 @@
 
 ghost use Rattle.std.specs.Prelude.{◌≡◌, ℕ, ◌+◌, ◌*◌, ◌≤◌, ◌<◌, ◌++◌, ◌∷◌, [], Some, length, slice_get, slice_set, replicate, List, IfOk, MatchOption};
 ghost use Rattle.bit_sets.specs.Rows.{row_has, word_has};
-ghost use Rattle.state_store.specs.Table.{mixed, hash_from, bucket, link, node_at, turned, fork, beside, Ends, head_of, AreTrees, IsSpot};
+ghost use Rattle.state_store.specs.own.Table.{mixed, hash_from, bucket, link, node_at, turned, fork, beside, Ends, head_of, AreTrees, IsSpot};
 ghost use Rattle.state_store.specs.Distinct.{AreDistinct};
 
 use crate::pack::has;
@@ -155,7 +155,7 @@ pub(crate) struct Table {
 
 impl Model for Table {
     ghost use Rattle.std.specs.Prelude.{◌≤◌, ◌<◌, length, vec_capacity};
-    ghost use Rattle.state_store.specs.Table.{Trees};
+    ghost use Rattle.state_store.specs.own.Table.{Trees};
 
     ghost Value = { Trees };
 
@@ -175,7 +175,7 @@ impl Drop for Table {
 }
 
 impl Table {
-    ghost use Rattle.state_store.specs.Table.{Trees};
+    ghost use Rattle.state_store.specs.own.Table.{Trees};
 
     /// A table without rows, and room for so many.
     pub(crate) fn new(alloc: Global, most: u32) -> Result<Table, AllocError>

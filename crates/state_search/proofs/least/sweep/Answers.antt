@@ -1,7 +1,7 @@
 use Rattle.std.proofs.Common.{◌≡◌, ◌∙◌, List, Bool, ap, sym, subst}
 use Rattle.gt_core.specs.Literal.{state_of}
 use Rattle.gt_core.specs.Execution.{IsGoal, next_values}
-use Rattle.state_search.specs.Breadth.{IsFound}
+use Rattle.state_search.specs.own.Breadth.{IsFound}
 use Rattle.state_search.proofs.BreadthLaw.{found, kept_unable, kept_known, kept_entered}
 use Rattle.state_search.proofs.least.sweep.Goals.{in-Entered+else-is_goal, in-Unable, in-Known}
 use Rattle.state_search.proofs.least.sweep.Goals as goal

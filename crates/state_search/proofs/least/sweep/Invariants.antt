@@ -1,6 +1,6 @@
 use Rattle.std.proofs.Common.{◌≡◌, length, Some}
 use Rattle.std.specs.Prelude.{slice_get}
-use Rattle.state_search.specs.Breadth.{IsBreadth}
+use Rattle.state_search.specs.own.Breadth.{IsBreadth}
 use Rattle.state_search.proofs.least.sweep.Given as goal
 
 -- the state is swept up to the action

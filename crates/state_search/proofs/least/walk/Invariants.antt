@@ -1,5 +1,5 @@
 use Rattle.std.proofs.Common.{◌≡◌, ◌-◌, length}
-use Rattle.state_search.specs.Breadth.{IsBreadth}
+use Rattle.state_search.specs.own.Breadth.{IsBreadth}
 use Rattle.state_search.proofs.least.walk.Given as goal
 
 -- the states before the number are swept

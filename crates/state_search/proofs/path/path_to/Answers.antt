@@ -2,7 +2,7 @@ use Rattle.std.proofs.Common.{arith, ◌≡◌, ◌+◌, ◌<◌, ◌++◌, ◌�
 use Rattle.std.specs.Prelude.{slice_get, slice_index}
 use Rattle.gt_core.specs.Literal.{state_of}
 use Rattle.gt_core.specs.Laws.{IsRunToGoal}
-use Rattle.state_search.specs.Path.{RunsToGoal}
+use Rattle.state_search.specs.own.Path.{RunsToGoal}
 use Rattle.state_search.proofs.PathLaw.{from, up, start, deeper}
 use Rattle.state_search.proofs.path.path_to.Goals as goal
 

@@ -1,8 +1,8 @@
 use Rattle.std.proofs.Common.{◌≡◌, ◌+◌, ◌<◌, ℕ, List, Bool, length, reverse, Some}
 use Rattle.std.specs.Prelude.{slice_get, slice_index}
 use Rattle.gt_core.specs.Literal.{state_of}
-use Rattle.state_search.specs.Path.{RunsToGoal}
-use Rattle.state_search.specs.Breadth.{AreFrom}
+use Rattle.state_search.specs.own.Path.{RunsToGoal}
+use Rattle.state_search.specs.own.Breadth.{AreFrom}
 use Rattle.state_search.proofs.path.path_to.Given as goal
 
 -- the actions that were taken, last first, lead from the state to the goal, and are as many as it lies above

@@ -2,7 +2,7 @@ use Rattle.std.proofs.Common.{◌≡◌, ◌∙◌, refl, sym, ap, subst}
 use Rattle.state_store.specs.Store.{with_state}
 use Rattle.gt_core.specs.Literal.{state_of}
 use Rattle.gt_core.specs.Execution.{Runs, next_values}
-use Rattle.state_search.specs.Walk.{IsWalk}
+use Rattle.state_search.specs.own.Walk.{IsWalk}
 use Rattle.state_search.proofs.WalkLaw.{walk_push}
 use Rattle.state_search.proofs.walk.propose.Goals as goal
 

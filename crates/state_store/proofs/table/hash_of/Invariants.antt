@@ -1,5 +1,5 @@
 use Rattle.std.proofs.Common.{◌≡◌, drop}
-use Rattle.state_store.specs.Table.{hash_from}
+use Rattle.state_store.specs.own.Table.{hash_from}
 use Rattle.state_store.proofs.table.hash_of.Given as goal
 
 -- what is left goes into the hash of what was read

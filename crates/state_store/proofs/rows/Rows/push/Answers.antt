@@ -1,5 +1,5 @@
 use Rattle.std.proofs.Common.{arith, ◌+◌, ◌∙◌, ap}
-use Rattle.state_store.specs.Rows.{rows_of}
+use Rattle.state_store.specs.own.Rows.{rows_of}
 use Rattle.state_store.proofs.RowsLaw.{length-rows, rows_push, row_fits, more_words}
 use Rattle.state_store.proofs.rows.Rows.push.Goals as goal
 

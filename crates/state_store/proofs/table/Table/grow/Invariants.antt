@@ -1,5 +1,5 @@
 use Rattle.std.proofs.Common.{◌≡◌, length}
-use Rattle.state_store.specs.Table.{AreTrees}
+use Rattle.state_store.specs.own.Table.{AreTrees}
 use Rattle.state_store.proofs.table.Table.grow.Given as goal
 
 -- the first rows are in the trees

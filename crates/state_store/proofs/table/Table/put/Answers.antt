@@ -1,6 +1,6 @@
 use Rattle.std.proofs.Common.{arith, ◌≡◌, ◌∙◌, ◌<◌, ap, sym, subst, length, Some}
 use Rattle.std.specs.Prelude.{slice_get}
-use Rattle.state_store.specs.Table.{IsSpot}
+use Rattle.state_store.specs.own.Table.{IsSpot}
 use Rattle.state_store.specs.declared.table.Spot.{Spot}
 use Rattle.state_store.proofs.TableLaw.{end_within, trees_beside, trees_alone}
 use Rattle.state_store.proofs.table.Table.put.Goals as goal

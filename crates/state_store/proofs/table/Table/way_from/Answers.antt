@@ -1,5 +1,5 @@
 use Rattle.std.proofs.Common.{arith, ◌≡◌, length, sym}
-use Rattle.state_store.specs.Table.{link}
+use Rattle.state_store.specs.own.Table.{link}
 use Rattle.state_store.proofs.TreeLaw.{ends_on, link_within}
 use Rattle.state_store.proofs.table.Table.way_from.Goals as goal
 

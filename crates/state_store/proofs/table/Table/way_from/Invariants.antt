@@ -1,5 +1,5 @@
 use Rattle.std.proofs.Common.{◌<◌, ◌-◌, ℕ, length}
-use Rattle.state_store.specs.Table.{Ends}
+use Rattle.state_store.specs.own.Table.{Ends}
 use Rattle.state_store.proofs.table.Table.way_from.Given as goal
 
 -- where the way ends from here, it ends from the first node

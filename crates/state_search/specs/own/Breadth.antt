@@ -5,7 +5,7 @@ use Rattle.gt_core.specs.Task.{Task}
 use Rattle.gt_core.specs.Execution.{Runs, IsGoal, next_values}
 use Rattle.state_store.specs.Store.{Stored}
 use Rattle.search_laws.specs.Search.{AreDepths}
-use Rattle.state_search.specs.Walk.{IsWalk, HasNoGoal}
+use Rattle.state_search.specs.own.Walk.{IsWalk, HasNoGoal}
 use Rattle.state_search.specs.declared.least.Swept.{Swept}
 use Rattle.state_search.specs.declared.least.Swept.TheVariants.{Closed, Goal, Full}
 

@@ -1,9 +1,9 @@
 -- What a store keeps.
 use Rattle.std.specs.Prelude.{◌≡◌, ℕ, ◌<◌, ◌≤◌, List, length}
 use Rattle.std.specs.List.{AllByRecursion}
-use Rattle.state_store.specs.Packed.{IsPacked, width_of}
-use Rattle.state_store.specs.Rows.{Block}
-use Rattle.state_store.specs.Table.{Trees, AreTrees}
+use Rattle.state_store.specs.own.Packed.{IsPacked, width_of}
+use Rattle.state_store.specs.own.Rows.{Block}
+use Rattle.state_store.specs.own.Table.{Trees, AreTrees}
 use Rattle.state_store.specs.Distinct.{AreDistinct}
 
 -- rows of which no two are equal, all of which are in the table
