@@ -21,7 +21,8 @@ loop-act-preserved c =
     elim c.match-propose.branch [
       | in-Entered+else-is_goal w ↦
           let after : c.propose.new.after ≡ next_values c.args.task.now (state_of c.state.new.into) c.loop-act.act = c.propose.ensures.after w.in-Entered.is in
-          let not = λ goal. w.is_goal.ensures.none w.if-is_goal.false (subst (λ (s : List Bool). IsGoal c.args.task.now (state_of s)) (sym after) goal) in
+          let not : IsGoal c.args.task.now (state_of (next_values c.args.task.now (state_of c.state.new.into) c.loop-act.act)) → ⊥ =
+          λ goal. w.is_goal.ensures.none w.if-is_goal.false (subst (λ (s : List Bool). IsGoal c.args.task.now (state_of s)) (sym after) goal) in
           let kept = kept_entered c.args.task.now c.loop-act.store c.args.number c.loop-act.act c.state.new.into inv.breadth inv.at c.propose.new.store w.in-Entered.ensures.proposed.0 w.in-Entered.ensures.proposed.1 not in
           record { breadth = kept.0; at = kept.1; most = kept.2 ∙ inv.most; before = inv.before; after = long }
       | in-Unable w ↦
