@@ -1,14 +1,14 @@
 -- Each state of a tree is reached.
-use Rattle.std.proofs.Common.{arith, ◌≡◌, ℕ, zero, suc, ◌+◌, ◌<◌, ◌≤◌, List, [], ◌∷◌, ◌++◌, length, map, Bool, true, false, refl, sym, ap, ◌∙◌, subst, Some}
+use Rattle.std.proofs.Common.{arith, ◌≡◌, ℕ, zero, suc, ◌+◌, ◌<◌, List, [], ◌∷◌, ◌++◌, length, map, Bool, true, refl, sym, ap, ◌∙◌, subst, Some}
 use Rattle.std.specs.Prelude.{slice_get, slice_index}
 use Rattle.gt_core.specs.Literal.{state_of, range, range_from}
 use Rattle.gt_core.specs.Task.{Task, initial_state}
 use Rattle.gt_core.specs.Lawful.{is_task}
-use Rattle.gt_core.specs.Execution.{Runs, CanRun, run, next_of_one, next_values}
+use Rattle.gt_core.specs.Execution.{Runs, run, next_of_one, next_values}
 use Rattle.gt_core.proofs.published.Within.{lawful}
 use Rattle.gt_core.proofs.published.SequenceLaw.{Agree, run_agrees, run_joined, can_run_joined}
 use Rattle.search_laws.specs.Reached.{IsReached}
-use Rattle.search_laws.specs.Tree.{IsAfter, IsTree, TreeIsReached}
+use Rattle.search_laws.specs.Tree.{IsTree, TreeIsReached}
 use Rattle.search_laws.proofs.published.SearchLaw.{at_range}
 
 -- truth values by a test, and the same by one that agrees with it

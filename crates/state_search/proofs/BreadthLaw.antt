@@ -1,5 +1,5 @@
 -- Breadth first: what an action in the state that is swept does to what is known.
-use Rattle.std.proofs.Common.{arith, ◌≡◌, ℕ, zero, suc, ◌+◌, ◌-◌, ◌<◌, ◌≤◌, List, [], ◌∷◌, ◌++◌, Bool, true, length, length-append, refl, sym, ap, ◌∙◌, subst, Some, ◌⊎◌, inl, inr}
+use Rattle.std.proofs.Common.{arith, ◌≡◌, ℕ, suc, ◌+◌, ◌<◌, ◌≤◌, List, [], ◌∷◌, ◌++◌, Bool, length, length-append, refl, sym, ap, ◌∙◌, subst, Some, ◌⊎◌, inl, inr}
 use Rattle.std.specs.Prelude.{slice_get, slice_index}
 use Rattle.std.proofs.lemmas.Bool.{cases_lt}
 use Rattle.std.proofs.lemmas.Option.{slice_get_within, slice_get-get_or, get_or_from_slice_get}
@@ -8,8 +8,8 @@ use Rattle.gt_core.specs.Task.{Task}
 use Rattle.gt_core.specs.Execution.{Runs, IsGoal, next_values}
 use Rattle.state_store.specs.Store.{Stored, with_state}
 use Rattle.state_store.proofs.published.PushedLaw.{pushed_at, pushed_before, pushed_last}
-use Rattle.search_laws.specs.Search.{IsListed, IsAtDepth, AreDepths, IsClosedList}
-use Rattle.state_search.specs.own.Walk.{IsWalk, HasNoGoal}
+use Rattle.search_laws.specs.Search.{IsListed, AreDepths, IsClosedList}
+use Rattle.state_search.specs.own.Walk.{IsWalk}
 use Rattle.state_search.specs.own.Breadth.{AreFrom, IsPassed, LeadsNear, IsBreadth, IsFound}
 use Rattle.state_search.proofs.WalkLaw.{walk_push, number_before, number_last}
 

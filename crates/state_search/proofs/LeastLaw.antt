@@ -1,5 +1,5 @@
 -- What is known where a walk ends.
-use Rattle.std.proofs.Common.{arith, ◌≡◌, ℕ, suc, ◌+◌, ◌-◌, ◌<◌, ◌≤◌, List, [], ◌∷◌, Bool, true, false, length, refl, sym, ap, ◌∙◌, subst, Some, inl, inr}
+use Rattle.std.proofs.Common.{arith, ◌≡◌, ℕ, ◌-◌, ◌≤◌, List, [], Bool, true, length, refl, sym, ap, ◌∙◌, subst, Some, inl, inr}
 use Rattle.std.specs.Prelude.{slice_get, slice_index}
 use Rattle.std.proofs.lemmas.Bool.{cases_lt, both_ways}
 use Rattle.gt_core.specs.Literal.{state_of}

@@ -1,16 +1,15 @@
 -- The actions up from a stored state.
-use Rattle.std.proofs.Common.{arith, ◌≡◌, ℕ, zero, suc, ◌+◌, ◌-◌, ◌<◌, ◌≤◌, List, [], ◌∷◌, ◌++◌, Bool, true, length, length-append, reverse, refl, sym, ap, ◌∙◌, subst, Some}
+use Rattle.std.proofs.Common.{arith, ◌≡◌, ℕ, zero, suc, ◌+◌, ◌<◌, List, [], ◌∷◌, ◌++◌, Bool, true, length, reverse, refl, sym, ◌∙◌, subst, Some}
 use Rattle.std.specs.Prelude.{slice_get, slice_index}
 use Rattle.std.proofs.lemmas.List.{reverse-append}
-use Rattle.std.proofs.lemmas.Option.{slice_get-get_or}
 use Rattle.gt_core.specs.Literal.{state_of}
 use Rattle.gt_core.specs.Task.{Task}
 use Rattle.gt_core.specs.Lawful.{is_task}
-use Rattle.gt_core.specs.Execution.{Runs, CanRun, run, next_of_one, next_values, IsGoal}
+use Rattle.gt_core.specs.Execution.{Runs, run, next_of_one, next_values}
 use Rattle.gt_core.specs.Laws.{IsRunToGoal}
 use Rattle.gt_core.proofs.published.SequenceLaw.{Agree, run_agrees}
 use Rattle.state_store.specs.Store.{Stored}
-use Rattle.search_laws.specs.Tree.{IsAfter, IsTree}
+use Rattle.search_laws.specs.Tree.{IsAfter}
 use Rattle.search_laws.proofs.published.SearchLaw.{next_agrees, goal_too}
 use Rattle.state_search.specs.own.Walk.{IsWalk}
 use Rattle.state_search.specs.own.Path.{RunsToGoal}

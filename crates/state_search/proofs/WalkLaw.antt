@@ -1,5 +1,5 @@
 -- A walk with one more state.
-use Rattle.std.proofs.Common.{arith, ◌≡◌, ℕ, zero, suc, ◌+◌, ◌<◌, ◌≤◌, List, [], ◌∷◌, ◌++◌, Bool, length, length-append, refl, sym, ap, ◌∙◌, subst, Some, ◌⊎◌, inl, inr}
+use Rattle.std.proofs.Common.{arith, ◌≡◌, ℕ, suc, ◌<◌, List, [], ◌∷◌, ◌++◌, Bool, length, length-append, sym, ap, ◌∙◌, subst, Some, ◌⊎◌, inl, inr}
 use Rattle.std.specs.Prelude.{slice_get, slice_index}
 use Rattle.std.proofs.lemmas.Option.{slice_get_within}
 use Rattle.std.proofs.Math.ListN.{get_or-append}
@@ -8,8 +8,8 @@ use Rattle.gt_core.specs.Literal.{state_of}
 use Rattle.gt_core.specs.Task.{Task}
 use Rattle.gt_core.specs.Execution.{Runs, next_values}
 use Rattle.state_store.specs.Store.{Stored, with_state}
-use Rattle.state_store.proofs.published.PushedLaw.{pushed_at, pushed_before, pushed_last}
-use Rattle.search_laws.specs.Tree.{IsAfter, IsTree}
+use Rattle.state_store.proofs.published.PushedLaw.{pushed_at, pushed_before}
+use Rattle.search_laws.specs.Tree.{IsAfter}
 use Rattle.state_search.specs.own.Walk.{IsWalk}
 
 -- a number of a list with one more, before the last one and as the last one

@@ -1,6 +1,5 @@
 -- The actions that lead to a stored state.
-use Rattle.std.specs.Prelude.{◌≡◌, ℕ, ◌+◌, List, Bool, Some, length, slice_get, slice_index}
-use Rattle.gt_core.specs.Literal.{state_of}
+use Rattle.std.specs.Prelude.{ℕ, List, Bool}
 use Rattle.gt_core.specs.Task.{Task}
 use Rattle.gt_core.specs.Execution.{CanRun, run, IsGoal}
 

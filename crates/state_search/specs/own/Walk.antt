@@ -1,9 +1,9 @@
 -- What a walk keeps.
-use Rattle.std.specs.Prelude.{◌≡◌, ℕ, suc, ◌+◌, ◌<◌, ◌≤◌, List, Bool, Some, length, slice_get, slice_index}
+use Rattle.std.specs.Prelude.{◌≡◌, ℕ, List, Bool, Some, length, slice_get}
 use Rattle.gt_core.specs.Literal.{state_of}
 use Rattle.gt_core.specs.Task.{Task}
 use Rattle.gt_core.specs.Execution.{Runs, IsGoal, next_values}
-use Rattle.state_store.specs.Store.{Stored, IsAbsent, with_state}
+use Rattle.state_store.specs.Store.{Stored, with_state}
 use Rattle.search_laws.specs.Search.{IsListed}
 use Rattle.search_laws.specs.Tree.{IsTree}
 use Rattle.state_search.specs.declared.walk.Proposed.{Proposed}

@@ -1,4 +1,4 @@
-use Rattle.std.proofs.Common.{arith, ◌≡◌, ◌-◌, length}
+use Rattle.std.proofs.Common.{arith, ◌-◌, length}
 use Rattle.state_search.proofs.LeastLaw.{last_goal, none_shorter}
 use Rattle.state_search.proofs.least.plan_of.Goals as goal
 

@@ -1,4 +1,4 @@
-use Rattle.std.proofs.Common.{◌≡◌, ◌∙◌, List, Bool, ap, sym, subst}
+use Rattle.std.proofs.Common.{◌≡◌, ◌∙◌, List, Bool, sym, subst}
 use Rattle.gt_core.specs.Literal.{state_of}
 use Rattle.gt_core.specs.Execution.{IsGoal, next_values}
 use Rattle.state_search.specs.own.Breadth.{IsFound}

@@ -1,4 +1,4 @@
-use Rattle.std.proofs.Common.{arith, ◌≡◌, ◌+◌, ◌<◌, ◌++◌, ◌∷◌, [], ◌∙◌, ℕ, List, Bool, ap, sym, subst, length, length-append, reverse, Some}
+use Rattle.std.proofs.Common.{arith, ◌≡◌, ◌++◌, ◌∷◌, [], ◌∙◌, ℕ, List, ap, sym, subst, length, length-append, reverse}
 use Rattle.std.specs.Prelude.{slice_get, slice_index}
 use Rattle.gt_core.specs.Literal.{state_of}
 use Rattle.gt_core.specs.Laws.{IsRunToGoal}
