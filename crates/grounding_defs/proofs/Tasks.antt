@@ -3,10 +3,9 @@ use Rattle.std.proofs.Common.{ℕ, List, [], ◌∷◌}
 use Rattle.pd_model.specs.declared.atoms.Atom.{Atom}
 use Rattle.pd_model.specs.declared.conds.Cond.{Cond}
 use Rattle.pd_model.specs.declared.schemas.Schema.{Schema}
-use Rattle.pd_model.specs.declared.objects.ObjectDecl.{ObjectDecl}
 use Rattle.pd_model.specs.declared.parts.Parts.{Parts}
 pub use Rattle.pd_model.proofs.published.Tasks.{has, call}
-use Rattle.pd_model.proofs.published.Tasks.{lacks, add, delete, schema, arity, type_under, object_of_type}
+use Rattle.pd_model.proofs.published.Tasks.{lacks, add, delete, schema, arity, type_under}
 
 abbrev pub atom : ℕ → List ℕ → Atom
 atom predicate objects = record { predicate = predicate; objects = objects }
@@ -45,23 +44,6 @@ sets_twice_0 = schema [] [] (add [] [] 0 [] ∷ add [] [] 0 [] ∷ [])
 -- adds 0 where 1 is in the state, and deletes it
 abbrev pub may_set_0 : Schema
 may_set_0 = schema [] [] (add [] (has 1 [] ∷ []) 0 [] ∷ delete [] [] 0 [] ∷ [])
-
-abbrev pub place_object : ObjectDecl
-place_object = object_of_type 2
-
-abbrev pub item_object : ObjectDecl
-item_object = object_of_type 1
-
--- these objects, of which the first is the place of the case
-abbrev pub case : List ObjectDecl → Parts
-case objects = record {
-  types = type_under 0 ∷ type_under 0 ∷ type_under 0 ∷ [];
-  predicates = arity 1 ∷ arity 2 ∷ arity 1 ∷ [];
-  objects = objects;
-  schemas = moves_case ∷ [];
-  init = atom 0 (0 ∷ []) ∷ [];
-  goal = [];
-}
 
 -- the atoms that the small tasks reach
 abbrev pub p : Atom

@@ -5,13 +5,13 @@ use Rattle.bit_sets.proofs.marks.Marks.clear.Goals as goal
 pub index_mut-requires : goal.index_mut-requires
 index_mut-requires c =
     let h = covers_last _ _ _ _ c.in-Some.ensures.items c.loop-touched.invariant.covers in
-    rw c.touched.view_is (omega (arith, h, c.loop-touched.self-inside.on.ok))
+    omega (arith, h, c.loop-touched.self-inside.on.ok)
 
 pub loop-touched-preserved : goal.loop-touched-preserved
-loop-touched-preserved c = rw c.touched.view_is (record {
+loop-touched-preserved c = record {
   covers = covers_set _ _ _ _ c.in-Some.ensures.items c.loop-touched.invariant.covers;
   size = length-set c.loop-touched.self-inside.on.items c.in-Some.touched false ∙ c.loop-touched.invariant.size;
-})
+}
 
 pub returns-clause-emptied : goal.returns-clause-emptied
 returns-clause-emptied c =

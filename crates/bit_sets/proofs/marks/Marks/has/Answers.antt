@@ -1,6 +1,6 @@
 use Rattle.std.proofs.Common.{arith, ◌<◌, List, Bool, false, length, sym, ap, ◌∙◌}
 use Rattle.std.proofs.lemmas.List.{get_or_default}
-use Rattle.bit_sets.specs.Marks.{places, at}
+use Rattle.bit_sets.specs.Marks.{places}
 use Rattle.bit_sets.proofs.published.Places.{is_among, in_places}
 use Rattle.bit_sets.proofs.marks.Marks.has.Goals as goal
 
