@@ -139,8 +139,7 @@ end_refused() {
         read -r ended <"$room/$n.ended"
         end_all
         echo "$line"
-        use words faults sentences
-        tell_line "$line" "$domain" "$problem" '' plan
+        "$root/launch/tell.py" plan "$line" "domain=$domain" "problem=$problem"
         exit "$ended"
     done
 }
