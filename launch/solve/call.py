@@ -1,0 +1,69 @@
+"""A call: the programs, the files, what may be used, and what is known."""
+import os
+import signal
+import subprocess
+import sys
+
+import processes
+import rooms
+from groups import PROCESSES
+from known import Known
+
+# The share of the memory that is free that a call takes where it is told none.
+SHARE = 0.75
+
+
+class Call:
+    """What all engines of a call have in common."""
+
+    def __init__(self, tool, root, programs, wish, given, kind="exists"):
+        self.tool, self.root = tool, root
+        self.planner, self.judge = programs["planner"], programs.get("judge")
+        self.searcher, self.judge_of_never = programs.get("search"), programs.get("never")
+        self.known, self.refusal = Known(wish, kind), None
+        self.jobs = given["jobs"] or processes.processors()
+        self.seconds, self.workers, self.walks = given["seconds"], 1, True
+        free = processes.free_memory()
+        self.memory = given["memory"] << 20 if given["memory"] else int(free * SHARE)
+        self.path, self.processes = os.environ.get("PATH", os.defpath), PROCESSES
+        self.solver_name, self.planner_words = None, None
+        self.rooms, self.disk, self.given = None, None, given
+
+    def take_files(self, domain, problem):
+        """Reads both files once, and puts what all programs read where no outside program is told of."""
+        self.paths = domain, problem
+        self.domain_text, self.problem_text = rooms.read_input(domain), rooms.read_input(problem)
+
+    def open_rooms(self):
+        """Makes the folders."""
+        self.rooms = rooms.Rooms(os.environ.get("TMPDIR") or "/tmp")
+        self.disk = self.given["disk"] << 20 if self.given.get("disk") else self.rooms.free() // 4
+        self.domain = self.rooms.keep(self.domain_text, "domain")
+        self.problem = self.rooms.keep(self.problem_text, "problem")
+
+    def refuse(self, status, line):
+        """The files are refused, by a line of a proved program; the first one counts."""
+        self.refusal = self.refusal or (status, line)
+
+    def say(self, *words):
+        """A line on standard error."""
+        say(self.tool, *words)
+
+    def tell_place(self, line):
+        """On standard error where in the user's files a fault is, or which limit is passed, by the parts of the launcher."""
+        sys.stdout.flush()
+        script = 'say() { printf "%s: %s\\n" "$name" "$*" >&2; }; root=$1 name=$2; . "$root/launch/places.bash"; ' \
+                 'use commands words faults sentences; tell_line "$3" "$4" "$5" "" "$6"'
+        subprocess.run(["bash", "-c", script, "bash", self.root, self.tool, line, *self.paths, "plan"], stdin=subprocess.DEVNULL,
+                       stdout=subprocess.DEVNULL, check=False)
+
+
+def say(tool, *words):
+    """A line on standard error."""
+    print(f"{tool}:", *words, file=sys.stderr, flush=True)
+
+
+def block_signals():
+    """From here on no signal ends the call: what is being written is written whole."""
+    for number in (signal.SIGINT, signal.SIGTERM, signal.SIGHUP, signal.SIGQUIT):
+        signal.signal(number, signal.SIG_IGN)
