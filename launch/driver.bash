@@ -16,7 +16,7 @@ run_driver() {
     find_places
     take_programs "$tool"
     find_cache_of_python
-    exec python3 -I "${cache[@]}" "$root/launch/solve" "$tool" "$root" "planner=$planner" "judge=$judge" "search=$searcher" \
+    exec python3 -I -S "${cache[@]}" "$root/launch/solve" "$tool" "$root" "planner=$planner" "judge=$judge" "search=$searcher" \
         "never=$never" -- "$@"
 }
 

@@ -1,7 +1,6 @@
 """A call: the programs, the files, what may be used, and what is known."""
 import os
 import signal
-import subprocess
 import sys
 
 import processes
@@ -51,6 +50,7 @@ class Call:
 
     def tell_place(self, line):
         """On standard error where in the user's files a fault is, or which limit is passed, by the parts of the launcher."""
+        import subprocess  # (it takes longer to read than a short call)
         sys.stdout.flush()
         script = 'say() { printf "%s: %s\\n" "$name" "$*" >&2; }; root=$1 name=$2; . "$root/launch/places.bash"; ' \
                  'use commands words faults sentences; tell_line "$3" "$4" "$5" "" "$6"'

@@ -2,7 +2,6 @@
 import collections
 import os
 import re
-import shlex
 
 # An option: its name, what may stand for it, and what stands for it by itself.
 Option = collections.namedtuple("Option", "name may default")
@@ -91,6 +90,7 @@ def range_of(text):
 
 def command(text, path):
     """The words of an outside program, parted as a shell parts them, with its path; None where there is no such program."""
+    import shlex  # (it takes longer to read than a short call)
     try:
         words = shlex.split(text)
     except ValueError as error:

@@ -1,6 +1,4 @@
 """What a call of `solve` prints: comments and the calls of a plan, or one object of JSON; and its status."""
-import json
-
 from known import sentence, steps_of
 
 PROVES = {"check": "check: the calls, executed in turn from the initial state, lead to the goal",
@@ -98,6 +96,7 @@ def lines(call, driver):
 
 def as_json(call, driver, status, versions):
     """The same as one object."""
+    import json  # (it takes longer to read than a short call)
     known, plan = call.known, call.known.plan()
     answer = "plan" if plan else "none" if known.none_within() else "refused" if call.refusal else "open"
     return json.dumps({

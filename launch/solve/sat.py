@@ -26,7 +26,7 @@ class Sat(Engine):
         super().__init__(call, row)
         self.name, self.solver, self.lookers = name, None, 0
         self.came, self.lowest_limit, self.count, self.hint = {}, 256, 0, -1
-        self.grown, self.seconds_each = 0, None
+        self.grown, self.seconds_each, self.first = 0, None, 0
 
     def next(self):
         """The strand of a new horizon."""
@@ -43,11 +43,11 @@ class Sat(Engine):
     def choose(self):
         """The next horizon to look at: in turn the lowest one, and one of those that grow, or the highest below a known plan."""
         known = self.call.known
-        first, last = max(known.refuted, self.hint) + 1, min(known.last(), self.lowest_limit - 1)
+        first, last = max(self.first, known.refuted + 1, self.hint + 1), min(known.last(), self.lowest_limit - 1)
         left = [n for n in range(first, last + 1) if n not in self.came]
         if not left or self.is_over or self.solver is None and self.strands:
             return None
-        if self.count % 2 == 0:
+        if self.count % 2 == 0 or not self.call.walks:
             return left[0]
         if known.upper() is not None:
             return left[-1]
@@ -63,6 +63,8 @@ class Sat(Engine):
         """What a horizon has come to."""
         self.came[n] = (state, line)
         known = self.call.known
+        if state == "refuted":
+            known.refute(n, line, "judge")
         self.tell(f"refuted to {known.refuted}" if known.refuted >= 0 else "no horizon is refuted")
 
     def horizon(self, n):
@@ -123,7 +125,6 @@ class Sat(Engine):
                     n, room, lambda lrat: [trim, cnf, proof[0], "-L", lrat, "-t", "1000000"])
         if judged is not None and judged[0] == 0:
             self.set(n, "refuted", judged[1])
-            self.call.known.refute(n, judged[1], "judge")
         elif came.status == 10:
             model = solvers.as_model(came.output, rooms.read_made(proof[0], MODEL)) if way == "minisat" else came.output
             yield from self.take_model(n, model)
