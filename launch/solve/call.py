@@ -8,6 +8,8 @@ import rooms
 from groups import PROCESSES
 from known import Known
 
+SIGNALS = (signal.SIGINT, signal.SIGTERM, signal.SIGHUP, signal.SIGQUIT)
+
 # The share of the memory that is free that a call takes where it is told none.
 SHARE = 0.75
 
@@ -26,15 +28,21 @@ class Call:
         self.memory = given["memory"] << 20 if given["memory"] else int(free * SHARE)
         self.path, self.processes = os.environ.get("PATH", os.defpath), PROCESSES
         self.solver_name, self.planner_words = None, None
-        self.rooms, self.disk, self.given = None, None, given
+        self.rooms, self.disk, self.given, self.signal = None, None, given, None
 
     def take_files(self, domain, problem):
         """Reads both files once, and puts what all programs read where no outside program is told of."""
         self.paths = domain, problem
         self.domain_text, self.problem_text = rooms.read_input(domain), rooms.read_input(problem)
 
+    def note(self, number, _):
+        """A signal ends the call, with what is known."""
+        self.signal = self.signal or number
+
     def open_rooms(self):
-        """Makes the folders."""
+        """Makes the folders. From here on a signal ends nothing at once, so that they are removed."""
+        for number in SIGNALS:
+            signal.signal(number, self.note)
         self.rooms = rooms.Rooms(os.environ.get("TMPDIR") or "/tmp")
         self.disk = self.given["disk"] << 20 if self.given.get("disk") else self.rooms.free() // 4
         self.domain = self.rooms.keep(self.domain_text, "domain")
@@ -51,7 +59,6 @@ class Call:
     def tell_place(self, line):
         """On standard error where in the user's files a fault is, or which limit is passed, by the parts of the launcher."""
         import subprocess  # (it takes longer to read than a short call)
-        sys.stdout.flush()
         script = 'say() { printf "%s: %s\\n" "$name" "$*" >&2; }; root=$1 name=$2; . "$root/launch/places.bash"; ' \
                  'use commands words faults sentences; tell_line "$3" "$4" "$5" "" "$6"'
         subprocess.run(["bash", "-c", script, "bash", self.root, self.tool, line, *self.paths, "plan"], stdin=subprocess.DEVNULL,
@@ -63,7 +70,14 @@ def say(tool, *words):
     print(f"{tool}:", *words, file=sys.stderr, flush=True)
 
 
+def put_out(lines):
+    """Writes lines on standard output, whole; OSError where that cannot be."""
+    text = memoryview("".join(f"{it}\n" for it in lines).encode("latin-1", "replace"))
+    while text:
+        text = text[os.write(1, text):]
+
+
 def block_signals():
     """From here on no signal ends the call: what is being written is written whole."""
-    for number in (signal.SIGINT, signal.SIGTERM, signal.SIGHUP, signal.SIGQUIT):
+    for number in SIGNALS:
         signal.signal(number, signal.SIG_IGN)

@@ -1,11 +1,8 @@
 """Runs engines side by side, each for its share of the time, until there is an answer, or the time, the memory or the user ends it."""
 import select
-import signal
 import time
 
 import processes
-
-SIGNALS = (signal.SIGINT, signal.SIGTERM, signal.SIGHUP, signal.SIGQUIT)
 
 # Seconds between two looks at memory and disk, and seconds for what has to be judged yet where time is over.
 LOOK, LAST = 0.5, 2
@@ -17,7 +14,7 @@ class Driver:
     def __init__(self, call, engines, tell=None):
         self.call, self.engines, self.tell = call, engines, tell
         self.running, self.begun, self.looked = [], time.monotonic(), 0.0
-        self.signal, self.is_late = None, False
+        self.is_late = False
 
     def spent(self):
         """The seconds so far."""
@@ -25,8 +22,6 @@ class Driver:
 
     def run(self):
         """Goes on to the end."""
-        for number in SIGNALS:
-            signal.signal(number, self.note)
         try:
             while not self.is_over():
                 self.stop_needless()
@@ -42,15 +37,11 @@ class Driver:
         finally:
             self.stop_all()
 
-    def note(self, number, _):
-        """A signal ends the run, with what is known."""
-        self.signal = self.signal or number
-
     def is_over(self):
         """Whether the run is at its end."""
         seconds = self.call.seconds
         self.is_late = seconds is not None and self.spent() >= seconds
-        return self.signal or self.is_late or self.call.refusal or self.call.known.is_over()
+        return self.call.signal or self.is_late or self.call.refusal or self.call.known.is_over()
 
     def live(self):
         """All strands that are not over."""
@@ -200,6 +191,6 @@ class Driver:
 
     def stop_all(self):
         """Ends all that runs."""
-        why = "time" if self.is_late else "interrupted" if self.signal else "needless"
+        why = "time" if self.is_late else "interrupted" if self.call.signal else "needless"
         for strand in self.live():
             self.stop(strand, why, LAST if self.is_late else 0)

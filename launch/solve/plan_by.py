@@ -10,7 +10,7 @@ import options
 import rooms
 import solvers
 import solve
-from call import Call, block_signals, say
+from call import Call, block_signals, put_out, say
 from driver import Driver
 from engine import Engine, accept
 from jobs import Job
@@ -62,7 +62,7 @@ def find_solver(call, name):
         while True:
             job.begin()
             until = time.monotonic() + 10
-            while not job.hear() and time.monotonic() < until:
+            while not job.hear() and time.monotonic() < until and not call.signal:
                 time.sleep(0.005)
             job.end("time")
             job = search.send(job.ended())
@@ -105,7 +105,7 @@ def search(call, given, name, first, last):
     tell = solve.tell_progress if sys.stderr.isatty() else None
     driver = Driver(call, [look] if call.planner else [], tell)
     driver.run()
-    if not driver.signal and not call.refusal and not driver.is_late:
+    if not call.signal and not call.refusal and not driver.is_late:
         begun, driver = driver.begun, Driver(call, [sat], tell)
         driver.begun = begun
         driver.run()
@@ -114,8 +114,7 @@ def search(call, given, name, first, last):
         print("\033[K", end="", file=sys.stderr)
     status = status_of(call, driver, sat, last)
     try:
-        sys.stdout.buffer.write("".join(f"{it}\n" for it in lines(call, driver, sat, given)).encode("latin-1", "replace"))
-        sys.stdout.buffer.flush()
+        put_out(lines(call, driver, sat, given))
     except OSError as error:
         return refuse(6, f"the report could not be written: {error.strerror}")
     if call.refusal or status == 4:
@@ -128,7 +127,7 @@ def status_of(call, driver, sat, last):
     known = call.known
     if call.refusal:
         return call.refusal[0]
-    if driver.signal:
+    if call.signal:
         return 130
     if known.few_steps:
         return 0
@@ -171,7 +170,7 @@ def horizon_line(n, sat, given, driver):
         return f"; horizon {n} open after {min(given['solver_seconds'], round(driver.spent()))} s of {name}"
     if state in ("open", "unjudged"):
         return f"; horizon {n} open: {line or name + ' has ended without an answer'}"
-    return f"; horizon {n} open: its run has ended without an answer"
+    return f"; horizon {n} open: its run has ended without an answer ({line})"
 
 
 def known_line(known):

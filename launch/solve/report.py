@@ -2,6 +2,7 @@
 from known import sentence, steps_of
 
 PROVES = {"check": "check: the calls, executed in turn from the initial state, lead to the goal",
+          "model": "model: the calls, executed in turn from the initial state, lead to the goal, in so many steps",
           "search": "search: there is no plan of any length", "never": "never: there is no plan of any length",
           "plan": "plan: the horizon is refuted", "judge": "judge: the horizon is refuted"}
 
@@ -13,7 +14,7 @@ def status_of(call, driver):
         return 0
     if known.none_within():
         return 1
-    if driver.signal:
+    if call.signal:
         return 130
     if call.refusal:
         return call.refusal[0]
@@ -58,7 +59,7 @@ def accepted_line(known):
     """The last comment: which word accepted the answer, and what that proves."""
     plan = known.plan()
     if plan:
-        line = f"; accepted by {PROVES['check']}"
+        line = f"; accepted by {PROVES[plan.word]}"
         if known.wish.least and known.is_least():
             word = known.refuted_word
             if known.wish.least == "actions" and known.refuted < len(plan.calls) - 1:
@@ -113,7 +114,7 @@ def as_json(call, driver, status, versions):
 
 def advice(call, driver, there):
     """What to do next, after an end without an answer; nothing where there is an answer."""
-    if driver.signal or call.refusal:
+    if call.signal or call.refusal:
         return None
     missing = [it for it, needs in (("a SAT solver (the package cadical)", "solver"), ("search", "search"), ("never", "never"))
                if needs not in there]

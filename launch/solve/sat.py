@@ -8,14 +8,18 @@ import time
 import options
 import rooms
 import solvers
-from engine import Engine, accept, why_ended
+from engine import Engine, why_ended
 from groups import part
 from jobs import Job, Strand
+from known import Plan
 from texts import LITERALS, REFUTED, calls_of, first_line, lines_of, report, said
 
 # Seconds that a solver has to end in once its proof was judged.
 GRACE = 3
 MODEL = 1 << 28
+
+# After so many horizons one after another that end by themselves without an answer that is accepted, a solver is given up.
+FAILURES = 5
 
 
 class Sat(Engine):
@@ -26,7 +30,7 @@ class Sat(Engine):
         super().__init__(call, row)
         self.name, self.solver, self.lookers = name, None, 0
         self.came, self.lowest_limit, self.count, self.hint = {}, 256, 0, -1
-        self.grown, self.seconds_each, self.first = 0, None, 0
+        self.grown, self.seconds_each, self.first, self.failures = 0, None, 0, 0
 
     def next(self):
         """The strand of a new horizon."""
@@ -65,7 +69,17 @@ class Sat(Engine):
         known = self.call.known
         if state == "refuted":
             known.refute(n, line, "judge")
-        self.tell(f"refuted to {known.refuted}" if known.refuted >= 0 else "no horizon is refuted")
+        if state in ("refuted", "plan", "unjudged"):
+            self.failures = 0
+        elif state in ("rejected", "lost") or state == "open" and line != "time":
+            self.failures += 1
+        told = [f"refuted to {known.refuted}" if known.refuted >= 0 else "no horizon is refuted"]
+        if state == "rejected":
+            told.append(f"what {self.name} said of horizon {n} is not accepted ({line})")
+        if self.failures >= FAILURES and self.call.walks:
+            told.append(f"given up after {FAILURES} horizons without an answer" + (f" ({line})" if state != "rejected" and line else ""))
+            self.lowest_limit = 0
+        self.tell("; ".join(told))
 
     def horizon(self, n):
         """The jobs of a horizon, in a folder of its own."""
@@ -102,7 +116,7 @@ class Sat(Engine):
             self.call.refuse(came.status, line)
             self.set(n, "refused", line)
         else:
-            self.set(n, "lost", why_ended(came))
+            self.set(n, "needless" if came.why == "needless" else "lost", why_ended(came))
         return False
 
     def run(self, words, room, *files):
@@ -128,13 +142,13 @@ class Sat(Engine):
         elif came.status == 10:
             model = solvers.as_model(came.output, rooms.read_made(proof[0], MODEL)) if way == "minisat" else came.output
             yield from self.take_model(n, model)
-        elif judged is not None and judged[0] in (1, 3) and (came.status == 20 or not judged[1].startswith("; not empty")):
+        elif judged is not None and came.why is None and judged[0] in (1, 3) and (came.status == 20 or not judged[1].startswith("; not empty")):
             self.set(n, "rejected", said(judged[1]))
         elif came.status == 20:
             self.hint = max(self.hint, n) if judged is None else self.hint
             self.set(n, "unjudged", "it says that there is no model, and what it says was not judged")
         else:
-            self.set(n, came.why if came.why == "needless" else "open", came.why or "")
+            self.set(n, "needless" if came.why == "needless" else "open", why_ended(came))
 
     def judge_behind(self, n, room, words):
         """Runs an outside program that writes a proof, with the judge behind it. Answers what the program came to, and the
@@ -155,8 +169,8 @@ class Sat(Engine):
         came = yield Job(self.judge("model", n, "-", given=given), closes=[given], brief=True)
         if came.status == 0:
             it = report(came.output)
-            good, line = yield from accept(self, calls_of(came.output), it.plan, it.steps, self.name.split()[0])
-            self.set(n, "plan" if good else "rejected", "" if good else line)
+            self.call.known.add(Plan(calls_of(came.output), it.plan, it.steps, self.row.name, "model"))
+            self.set(n, "plan")
         elif came.status in (1, 3):
             self.set(n, "rejected", said(first_line(came.output)))
         else:

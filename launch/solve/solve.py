@@ -8,7 +8,7 @@ import report
 import rooms
 import solvers
 import table
-from call import Call, block_signals, say
+from call import Call, block_signals, put_out, say
 from driver import Driver
 from known import Wish
 
@@ -78,10 +78,8 @@ def end(call, driver, there, target, root):
     if sys.stderr.isatty():
         print("\033[K", end="", file=sys.stderr)
     try:
-        text = report.as_json(call, driver, status, versions(call, root, driver.engines)) if call.given["json"] \
-            else "\n".join(report.lines(call, driver))
-        sys.stdout.buffer.write((text + "\n").encode("latin-1", "replace"))
-        sys.stdout.buffer.flush()
+        put_out([report.as_json(call, driver, status, versions(call, root, driver.engines))] if call.given["json"]
+                else report.lines(call, driver))
     except OSError as error:
         call.say(f"the report could not be written: {error.strerror}")
         status = 6
@@ -115,7 +113,6 @@ def run(root, programs, words):
     except solvers.NoSolver as error:
         return refuse(70, str(error))
     except rooms.Unread as error:
-        print("; read fault", flush=True)
         return refuse(5, str(error))
     except OSError as error:
         return refuse(6, f"{error.filename or ''}: {error.strerror}")

@@ -14,12 +14,12 @@ Row = collections.namedtuple("Row", "name maker after turn weight most memory wo
 
 # The seconds are those of bench/time/solve-corpus: an easy task has its answer before the heavy engines begin.
 ROWS = [
-    Row("never", Never, 0.0, 5.0, 1, 1, 0.2, [], "never"),
-    Row("search greedy", Search, 0.0, 5.0, 2, 1, 0.3, ["--how", "greedy"], "search"),
-    Row("plan growing", Race, 0.0, 5.0, 2, 1, 0.2, [], "plan"),
-    Row("planner", Planner, 0.0, 5.0, 1, 1, 0.4, [], "planner"),
-    Row("search least", Search, 0.5, 2.0, 1, 1, 0.3, ["--how", "least"], "search"),
-    Row("plan each", Race, 0.5, 2.0, 1, 1, 0.2, ["--growth", "101"], "plan"),
+    Row("never", Never, 0.0, 2.0, 1, 1, 0.2, [], "never"),
+    Row("search greedy", Search, 0.0, 2.0, 2, 1, 0.3, ["--how", "greedy"], "search"),
+    Row("plan growing", Race, 0.0, 2.0, 2, 1, 0.2, [], "plan"),
+    Row("planner", Planner, 0.0, 2.0, 1, 1, 0.4, [], "planner"),
+    Row("search least", Search, 0.5, 1.0, 1, 1, 0.3, ["--how", "least"], "search"),
+    Row("plan each", Race, 0.5, 1.0, 1, 1, 0.2, ["--growth", "101"], "plan"),
     Row("sat", Sat, 1.0, 2.0, 2, 64, 0.3, [], "solver"),
     Row("never-search", NeverSearch, 1.0, 2.0, 1, 1, 0.2, [], "never"),
 ]
