@@ -65,6 +65,7 @@ class Sat(Engine):
 
     def set(self, n, state, line=""):
         """What a horizon has come to."""
+        state = "needless" if line == "needless" else state
         self.came[n] = (state, line)
         known = self.call.known
         if state == "refuted":
@@ -116,7 +117,7 @@ class Sat(Engine):
             self.call.refuse(came.status, line)
             self.set(n, "refused", line)
         else:
-            self.set(n, "needless" if came.why == "needless" else "lost", why_ended(came))
+            self.set(n, "lost", why_ended(came))
         return False
 
     def run(self, words, room, *files):
@@ -148,7 +149,7 @@ class Sat(Engine):
             self.hint = max(self.hint, n) if judged is None else self.hint
             self.set(n, "unjudged", "it says that there is no model, and what it says was not judged")
         else:
-            self.set(n, "needless" if came.why == "needless" else "open", why_ended(came))
+            self.set(n, "open", why_ended(came))
 
     def judge_behind(self, n, room, words):
         """Runs an outside program that writes a proof, with the judge behind it. Answers what the program came to, and the
