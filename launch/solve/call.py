@@ -28,7 +28,7 @@ class Call:
         self.memory = given["memory"] << 20 if given["memory"] else int(free * SHARE)
         self.path, self.processes = os.environ.get("PATH", os.defpath), PROCESSES
         self.solver_name, self.planner_words = None, None
-        self.rooms, self.disk, self.given, self.signal = None, None, given, None
+        self.rooms, self.disk, self.given, self.signal, self.is_short = None, None, given, None, False
 
     def take_files(self, domain, problem):
         """Reads both files once, and puts what all programs read where no outside program is told of."""
@@ -51,6 +51,10 @@ class Call:
     def refuse(self, status, line):
         """The files are refused, by a line of a proved program; the first one counts."""
         self.refusal = self.refusal or (status, line)
+
+    def want_memory(self):
+        """An engine was ended for want of memory: with more of it there may be an answer."""
+        self.is_short = True
 
     def say(self, *words):
         """A line on standard error."""

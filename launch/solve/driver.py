@@ -167,10 +167,12 @@ class Driver:
             if count > self.call.processes:
                 self.stop(strand, f"it has started more than {self.call.processes} processes", LAST)
             elif memory > 1.2 * strand.engine.memory():
+                self.call.want_memory()
                 self.stop(strand, f"it wants more than its {strand.engine.memory() >> 20} MB", LAST)
             else:
                 used.append((memory, strand))
         if sum(memory for memory, _ in used) > self.call.memory:
+            self.call.want_memory()
             self.stop(max(used, key=lambda it: it[0])[1], "memory is short", LAST)
         self.look_at_disk()
         if self.tell:
@@ -192,5 +194,7 @@ class Driver:
     def stop_all(self):
         """Ends all that runs."""
         why = "time" if self.is_late else "interrupted" if self.call.signal else "needless"
+        for strand in self.live():
+            strand.hurry()
         for strand in self.live():
             self.stop(strand, why, LAST if self.is_late else 0)

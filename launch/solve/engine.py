@@ -1,7 +1,7 @@
 """What engines have in common, and how a plan is accepted."""
 from groups import part
 from jobs import Job, Strand
-from known import Plan
+from known import Plan, sentence
 from texts import first_line, said
 
 
@@ -34,6 +34,8 @@ class Engine:
     def add(self, came):
         """The same, of a job without an answer: what was known before stays."""
         why = why_ended(came)
+        if came.status == 8:
+            self.call.want_memory()
         if why != "needless" or not self.told:
             self.told = "; ".join(filter(None, [self.told, why]))
 
@@ -43,16 +45,18 @@ class Engine:
         return part([call.planner, words[0], call.domain, call.problem, *words[1:]], memory=self.memory(), **more)
 
 
-def accept(engine, calls, lines, steps, finder):
-    """Has `check` accept the calls of a plan: a generator of one job. Answers whether it was accepted, and what was said."""
+def accept(engine, calls, lines, steps):
+    """Has `check` accept the calls of a plan: a generator of one job. Tells it in the report, and answers whether it was accepted."""
     call = engine.call
     path = call.rooms.keep("".join(f"{it}\n" for it in calls).encode("latin-1"))
     came = yield Job(part([call.planner, "check", call.domain, call.problem, path], memory=engine.memory()), brief=True)
     line = first_line(came.output)
     if came.status == 0 and line == "; reaches the goal":
-        call.known.add(Plan(calls, lines, steps, finder, "check"))
-        return True, line
-    return False, said(line) if came.status is not None else "the check was ended"
+        call.known.add(Plan(calls, lines, steps, engine.row.name, "check"))
+        engine.tell(f"a plan of {sentence(len(calls), 'action') if steps is None else sentence(steps, 'step')}")
+        return True
+    engine.tell("a plan that was not checked any more" if came.status is None else f"its plan is not accepted: {said(line)}")
+    return False
 
 
 def why_ended(came):

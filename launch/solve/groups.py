@@ -125,11 +125,16 @@ class Group:
             processes.signal_below(self.keeper, signal.SIGCONT)
         self.paused = False
 
+    def hurry(self):
+        """The keeper begins to end all of it."""
+        if not self.has_ended():
+            processes.send(self.keeper, signal.SIGTERM)
+
     def end(self):
         """Ends all of it, and takes what it has come to."""
         if self.has_ended():
             return
-        processes.send(self.keeper, signal.SIGTERM)
+        self.hurry()
         if not select.select([self.told], [], [], 10)[0]:
             processes.end_below(self.keeper)
             processes.send(self.keeper, signal.SIGKILL)

@@ -137,6 +137,12 @@ class Strand:
             self.step(self.job.ended())
         return self.is_over
 
+    def hurry(self):
+        """What runs begins to end, but for a brief job."""
+        if self.job is not None and not self.job.brief:
+            for group in self.job.groups:
+                group.hurry()
+
     def stop(self, why, seconds):
         """Ends what runs. The jobs behind it are told, so that what is known is kept; brief ones have so many seconds more."""
         until = time.monotonic() + seconds

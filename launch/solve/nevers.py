@@ -48,8 +48,7 @@ class NeverSearch(Engine):
                 self.tell(said(line) if good else f"its certificate is not accepted: {said(line)}")
             elif came.status == 1:
                 it = report(came.output)
-                good, line = yield from accept(self, it.calls, it.plan, it.steps, self.row.name)
-                self.tell(f"a plan of {len(it.calls)} actions" if good else f"its plan is not accepted: {line}")
+                yield from accept(self, it.calls, it.plan, it.steps)
             else:
                 if came.status == 4:
                     call.known.limits[self.row.name] = first_line(came.output)

@@ -39,7 +39,7 @@ class First(Engine):
                 if state == "refuted":
                     known.refute(horizon, line, word)
             if came.status == 0:
-                yield from accept(self, it.calls, it.plan, it.steps, word)
+                yield from accept(self, it.calls, it.plan, it.steps)
         self.is_over = True
 
 

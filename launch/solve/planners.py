@@ -26,9 +26,7 @@ class Planner(Engine):
             self.tell(f"no plan ({why_ended(came)})")
         else:
             calls = calls_of(text)
-            lines = [f"; plan of {len(calls)} actions", *calls]
-            good, line = yield from accept(self, calls, lines, None, self.row.name)
-            self.tell(f"a plan of {len(calls)} actions" if good else f"its plan is not accepted: {line}")
+            yield from accept(self, calls, [f"; plan of {len(calls)} actions", *calls], None)
         self.is_over = True
 
 

@@ -45,8 +45,7 @@ class Race(Engine):
                 if word == "refuted":
                     known.refute(horizon, line, "plan")
             if came.status == 0:
-                good, line = yield from accept(self, it.calls, it.plan, it.steps, self.row.name)
-                self.tell(f"a plan of {it.steps} steps" if good else f"its plan is not accepted: {line}")
+                yield from accept(self, it.calls, it.plan, it.steps)
             else:
                 self.tell(f"refuted to {known.refuted}, with {budget} conflicts" if known.refuted >= 0
                           else f"nothing is refuted with {budget} conflicts")

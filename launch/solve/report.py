@@ -22,7 +22,7 @@ def status_of(call, driver):
         return 124
     if known.limits and known.refuted < 0 and not known.states:
         return 4
-    return 2
+    return 8 if call.is_short else 2
 
 
 def bounds(known):
@@ -121,4 +121,6 @@ def advice(call, driver, there):
     left = "not installed here: " + ", ".join(missing) if missing else "all engines were tried"
     if driver.is_late:
         return f"{call.seconds} seconds are over: more of them (--seconds) may tell more; {left}"
+    if call.is_short:
+        return f"memory is short: more of it (--memory) may tell more; {left}"
     return f"no engine has anything left to try; {left}"

@@ -91,7 +91,7 @@ def end(call, driver, there, target, root):
         status = 6
     if status in (3, 4, 5) and (call.refusal or call.known.limits):
         call.tell_place(call.refusal[1] if call.refusal else next(iter(call.known.limits.values())))
-    line = report.advice(call, driver, there) if status in (2, 4, 124) else None
+    line = report.advice(call, driver, there) if status in (2, 4, 8, 124) else None
     if line:
         call.say(line)
     return status

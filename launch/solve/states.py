@@ -25,10 +25,8 @@ class Search(Engine):
         if it.states is not None and came.status in (0, 1, 2):
             known.states = max(known.states, it.states)
         if came.status == 0:
-            good, line = yield from accept(self, it.calls, it.plan, it.steps, self.row.name)
-            if good and it.least:
+            if (yield from accept(self, it.calls, it.plan, it.steps)) and it.least:
                 known.shortest(len(it.calls), "search")
-            self.tell(f"a plan of {len(it.calls)} actions" if good else f"its plan is not accepted: {line}")
         elif came.status == 1 and (line := next(filter(NEVER.match, it.lines), None)):
             known.none(line, "search")
             self.tell(said(line))

@@ -1,0 +1,12 @@
+; A guard walks through doors that a key or a colleague opens: `or` in a precondition.
+(define (domain doors)
+  (:requirements :strips :typing :disjunctive-preconditions)
+  (:types room)
+  (:predicates (door ?a ?b - room) (in ?a - room) (has-key) (colleague ?a - room))
+  (:action pass :parameters (?a ?b - room)
+    :precondition (and (door ?a ?b) (in ?a) (or (has-key) (colleague ?b)))
+    :effect (and (in ?b) (not (in ?a)))))
+(define (problem round) (:domain doors)
+  (:objects hall office vault - room)
+  (:init (door hall office) (door office vault) (in hall) (colleague office) (has-key))
+  (:goal (in vault)))

@@ -1,0 +1,13 @@
+; The towers of Hanoi with four discs.
+(define (domain hanoi)
+  (:requirements :strips)
+  (:predicates (smaller ?x ?y) (on ?x ?y) (clear ?x) (disc ?x))
+  (:action move :parameters (?d ?from ?to)
+    :precondition (and (disc ?d) (smaller ?to ?d) (on ?d ?from) (clear ?d) (clear ?to))
+    :effect (and (clear ?from) (on ?d ?to) (not (on ?d ?from)) (not (clear ?to)))))
+(define (problem four) (:domain hanoi)
+  (:objects a b c d1 d2 d3 d4)
+  (:init (disc d1) (disc d2) (disc d3) (disc d4) (smaller a d1) (smaller a d2) (smaller a d3) (smaller a d4) (smaller b d1) (smaller b d2)
+         (smaller b d3) (smaller b d4) (smaller c d1) (smaller c d2) (smaller c d3) (smaller c d4) (smaller d2 d1) (smaller d3 d1)
+         (smaller d4 d1) (smaller d3 d2) (smaller d4 d2) (smaller d4 d3) (clear b) (clear c) (clear d1) (on d4 a) (on d3 d4) (on d2 d3) (on d1 d2))
+  (:goal (and (on d4 c) (on d3 d4) (on d2 d3) (on d1 d2))))

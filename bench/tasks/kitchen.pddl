@@ -1,0 +1,12 @@
+; A kitchen in which dishes take their time: durative actions.
+(define (domain kitchen)
+  (:requirements :strips :typing :durative-actions)
+  (:types dish)
+  (:predicates (raw ?d - dish) (done ?d - dish) (stove-free))
+  (:durative-action cook :parameters (?d - dish) :duration (= ?duration 10)
+    :condition (and (at start (raw ?d)) (at start (stove-free)))
+    :effect (and (at start (not (stove-free))) (at end (stove-free)) (at end (done ?d)))))
+(define (problem dinner) (:domain kitchen)
+  (:objects soup rice - dish)
+  (:init (raw soup) (raw rice) (stove-free))
+  (:goal (and (done soup) (done rice))))

@@ -1,0 +1,11 @@
+; A rocket that starts once all systems are ready: `forall` in a precondition.
+(define (domain launch)
+  (:requirements :strips :typing :universal-preconditions)
+  (:types system)
+  (:predicates (ready ?s - system) (up))
+  (:action prepare :parameters (?s - system) :precondition () :effect (ready ?s))
+  (:action start :parameters () :precondition (forall (?s - system) (ready ?s)) :effect (up)))
+(define (problem today) (:domain launch)
+  (:objects fuel radio crew - system)
+  (:init)
+  (:goal (up)))

@@ -1,0 +1,11 @@
+; Cables between hosts until one host reaches another: a derived predicate.
+(define (domain network)
+  (:requirements :strips :typing :derived-predicates)
+  (:types host)
+  (:predicates (slot ?a ?b - host) (cable ?a ?b - host) (reaches ?a ?b - host))
+  (:derived (reaches ?a ?b - host) (or (cable ?a ?b) (exists (?c - host) (and (cable ?a ?c) (reaches ?c ?b)))))
+  (:action plug :parameters (?a ?b - host) :precondition (slot ?a ?b) :effect (cable ?a ?b)))
+(define (problem rack) (:domain network)
+  (:objects a b c - host)
+  (:init (slot a b) (slot b c))
+  (:goal (reaches a c)))

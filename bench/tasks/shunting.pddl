@@ -1,0 +1,13 @@
+; Six rail cars on three tracks that are open at one end: their order is turned round, on the same track.
+(define (domain shunting)
+  (:requirements :strips :typing :negative-preconditions :equality)
+  (:types thing - object car buffer - thing)
+  (:predicates (before ?x ?y - thing) (end ?x - thing ?t - buffer))
+  (:action move :parameters (?c - car ?x - thing ?t - buffer ?y - thing ?u - buffer)
+    :precondition (and (end ?c ?t) (before ?x ?c) (end ?y ?u) (not (= ?t ?u)))
+    :effect (and (not (end ?c ?t)) (end ?x ?t) (not (before ?x ?c)) (not (end ?y ?u)) (end ?c ?u) (before ?y ?c))))
+(define (problem six) (:domain shunting)
+  (:objects c1 c2 c3 c4 c5 c6 - car yard siding spur - buffer)
+  (:init (before yard c1) (before c1 c2) (before c2 c3) (before c3 c4) (before c4 c5) (before c5 c6) (end c6 yard)
+         (end siding siding) (end spur spur))
+  (:goal (and (before yard c6) (before c6 c5) (before c5 c4) (before c4 c3) (before c3 c2) (before c2 c1))))
