@@ -16,11 +16,11 @@ _dokyreva_options() {
     done <"$_dokyreva_help/$1.txt"
 }
 
-# _dokyreva_values COMMAND OPTION: what may stand for an option: values, FILE or FOLDER, or nothing.
+# _dokyreva_values COMMAND OPTION: what may stand for an option: values, FILE or FOLDER, - where it takes none, or nothing.
 _dokyreva_values() {
     awk -F '  +' -v name="$2" '
         $1 == name {
-            if ($2 ~ /^(FILE|FOLDER)$/) print $2; else if ($4 != "-") print $4
+            if ($2 ~ /^(FILE|FOLDER|-)$/) print $2; else if ($4 != "-") print $4
             exit
         }' "$_dokyreva_help/$1.txt" "$_dokyreva_help/options.txt"
 }
@@ -64,7 +64,7 @@ _dokyreva() {
         _dokyreva_words cadical kissat drat:
     elif [ "$values" = FOLDER ]; then
         mapfile -t COMPREPLY < <(compgen -d -- "$word")
-    elif [[ $before == --* && $before != --help && $values != FILE ]]; then
+    elif [[ $before == --* && $before != --help && $values != FILE && $values != - ]]; then
         _dokyreva_words "$values"
     elif [[ $word == -* ]]; then
         _dokyreva_words "$(_dokyreva_options "$command") --help"

@@ -127,16 +127,6 @@ end_timer() {
     trap - ALRM
 }
 
-# open_room: a folder for reports that are not shown yet.
-open_room() {
-    [ -z "$room" ] || return 0
-    trap end_by_signal INT QUIT TERM HUP
-    room=$(mktemp -d) && return
-    say "there is no folder for a report: $TMPDIR cannot be written"
-    status=6
-    return 1
-}
-
 # show_report: what the program wrote, on standard output. Where it cannot be written there status is 6.
 show_report() {
     cat -- "$room/report" 2>/dev/null || status=6

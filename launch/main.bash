@@ -30,23 +30,13 @@ run_words() {
     [ -z "$plan_file" ] || end_plan_file
 }
 
-# tell_end: tells what the status comes from.
-tell_end() {
-    if [ "$status" = 7 ]; then
-        use words
-        tell_refused "${words[@]}"
-    elif [ "$status" -gt 2 ] && [ "$status" != 124 ]; then
-        use words clock faults sentences
-        tell_faults "${words[@]}"
-    fi
-}
-
 # warn: on a terminal, what is odd in the files, before a plan is searched.
 warn() {
-    [ -t 2 ] && [[ ${words[0]-} == plan || ${words[0]-} == plan-all ]] && [ -x "$root/launch/lint.py" ] || return
-    use faults
+    local files
+    [ -t 2 ] && [[ ${words[0]-} == plan || ${words[0]-} == plan-all ]] || return
     files_of "${words[@]:1}"
     [ "${#files[@]}" = 2 ] || return
+    warned=yes
     DOKYREVA_PROGRAM=$program timeout --foreground 5 "$root/launch/lint.py" --quiet "${files[@]}" >&2 2>/dev/null </dev/null
 }
 
@@ -80,11 +70,12 @@ if [[ $by != *_prog ]]; then
     find_or_build plan_prog || exit
     DOKYREVA_COMMAND=$1 DOKYREVA_PROGRAM=$program exec "$root/$by" "${@:2}"
 fi
-words=("$@") memory='' seconds='' plan_file=''
-if [[ " $*" == *' --memory'* || " $*" == *' --seconds'* || " $*" == *' --plan-file'* ]]; then
+words=("$@") memory='' seconds='' plan_file='' all_faults='' timed='' warned=''
+if [[ " $*" =~ \ --(memory|seconds|plan-file|all-faults|timed) ]]; then
     use own fresh plan_file
     take_own "$@"
     [ -z "$plan_file" ] || see_plan_file "${words[@]}"
+    [ -z "$timed" ] || { use timed && take_timed; }
 fi
 find_or_build "${by:-plan_prog}" || exit
 SECONDS=0
@@ -95,6 +86,9 @@ else
     warn
     run_words
 fi
-tell_end
+if [ "$status" != 0 ]; then
+    use words explain
+    tell_end
+fi
 stop_all
 exit "$status"

@@ -1,10 +1,10 @@
 # shellcheck shell=bash disable=SC2034,SC2154 # the parts set variables for one another
 # The options of the launcher itself, which the program does not take. To be read after words.bash.
 
-# take_own WORD..: sets words to those that are for the program, and memory, seconds and plan_file. Ends with 7 where one of
-# its own is not as it has to be.
+# take_own WORD..: sets words to those that are for the program, and memory, seconds, plan_file, all_faults and timed. Ends with 7
+# where one of its own is not as it has to be.
 take_own() {
-    words=() memory='' seconds='' plan_file=''
+    words=() memory='' seconds='' plan_file='' all_faults='' timed=''
     while [ $# -gt 0 ]; do
         case $1 in
         --) break ;;
@@ -13,6 +13,8 @@ take_own() {
             set_own "$1" "$2"
             shift
             ;;
+        --all-faults) all_faults=yes ;;
+        --timed) timed=yes ;;
         --memory=* | --seconds=* | --plan-file=*) set_own "${1%%=*}" "${1#*=}" ;;
         *) words+=("$1") ;;
         esac
@@ -54,10 +56,12 @@ refuse_own() {
 # check_own COMMAND: it takes those of the launcher's own options that stand among the words.
 check_own() {
     local taken
-    [ -n "$memory$seconds$plan_file" ] && is_command "$1" || return 0
+    [ -n "$memory$seconds$plan_file$all_faults$timed" ] && is_command "$1" || return 0
     use words
     taken=" $(options_of "$1") "
     [[ -z $memory || $taken == *' --memory '* ]] || refuse_own "$1 takes no option --memory"
     [[ -z $seconds || $taken == *' --seconds '* ]] || refuse_own "$1 takes no option --seconds"
     [[ -z $plan_file || $taken == *' --plan-file '* ]] || refuse_own "$1 takes no option --plan-file"
+    [[ -z $all_faults || $taken == *' --all-faults '* ]] || refuse_own "$1 takes no option --all-faults"
+    [[ -z $timed || $taken == *' --timed '* ]] || refuse_own "$1 takes no option --timed"
 }

@@ -9,13 +9,8 @@ import os
 import pathlib
 import re
 import subprocess
-import sys
 import typing
 
-from view.tell import KINDS
-
-REFUSED = re.compile(r"; refused (\w+) (domain|problem) (\d+)\n")
-UNREAD = re.compile(r"; read fault (domain|problem)\n")
 TOKEN = re.compile(r";[^\n]*|[()]|[!-'*-:<-~]+")
 
 
@@ -266,14 +261,8 @@ class Ground:
                 self.facts.add(f"({call})")
 
     def tell(self, paths=None):
-        """Prints what the planner printed and, of a refusal, the place on standard error, in a file at one of these paths."""
+        """Prints what the planner printed, and on standard error what it comes from, in files at these paths."""
+        from messages.calls import tell_line  # (which reads this module)
+
         print(self.text, end="", flush=True)
-        paths = paths or self.paths
-        unread = UNREAD.fullmatch(self.text)
-        if unread:
-            print(f"{paths[unread[1]]}: the {unread[1]} could not be read", file=sys.stderr)
-        found = REFUSED.fullmatch(self.text)
-        if found:
-            path = paths[found[2]]
-            line, column = place(pathlib.Path(path).read_bytes().decode("latin-1"), int(found[3]))
-            print(f"{path}:{line}:{column}: {found[1]}: {KINDS[found[1]]}", file=sys.stderr)
+        tell_line(self.text.rstrip("\n"), {**self.paths, **(paths or {})}, "ground")

@@ -101,8 +101,7 @@ look_first() {
 end_refused() {
     clear_progress
     say "$refusal"
-    use words faults sentences
-    tell_line "$refusal" "$domain" "$problem" '' prove
+    "$root/launch/tell.py" prove "$refusal" "domain=$domain" "problem=$problem"
     exit "$1"
 }
 

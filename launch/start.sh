@@ -13,7 +13,7 @@ root=${root%/.}
 is_plain() {
     [ $# -gt 0 ] && [ ! -t 2 ] || return
     case " $* " in
-    *' --help '* | *' -h '* | *' --memory'* | *' --seconds'* | *' --plan-file'*) return 1 ;;
+    *' --help '* | *' -h '* | *' --memory'* | *' --seconds'* | *' --plan-file'* | *' --all-faults '* | *' --timed '*) return 1 ;;
     esac
     is_command "$1" || return
     case $by in
@@ -78,7 +78,10 @@ if is_plain "$@" && is_ready && can_hand_on; then
     begun=$uptime
     echo 'dokyreva: this is the proved program of the release' >&2
     run_ready "$@"
-    [ "$status" -gt 2 ] || exit "$status"
+    case $status:$1 in
+    1:check | [12]:plan | [12]:plan-all) ;;
+    [012]:*) exit "$status" ;;
+    esac
     find_uptime
     ended=$status:$((uptime - begun))
 fi

@@ -6,6 +6,9 @@ running='' watcher='' timer='' room='' leftover='' late=no
 # end_by_signal: ends all that runs, removes what is half made, and ends with 130.
 end_by_signal() {
     trap '' INT QUIT TERM HUP
+    [ -z "$running" ] || kill -KILL "$running" 2>/dev/null
+    [ ! -t 2 ] || printf '\033[K' >&2
+    tell_known
     stop_all
     exit 130
 }
@@ -28,12 +31,18 @@ end_all() {
     [ -z "$room" ] || rm -rf -- "$room"
 } 2>/dev/null
 
+# hand_on: what scripts that are started are told of the call, and tie, the words that bind them to this process.
+hand_on() {
+    tie=()
+    [ "${tied-}" != yes ] || tie=(setpriv --pdeathsig KILL)
+    export DOKYREVA_PROGRAM=$program DOKYREVA_TIED=${tied-} DOKYREVA_MEMORY=${memory-}
+}
+
 # start_program WORD..: starts the program in the background, with this process's standard input, within the memory that was
 # asked for. The limit is on data, and not on the address space: within that the main stack could not grow, and a run that had
 # memory left would end by a signal. Where the system can do that, it ends with this process, whatever ends that.
 start_program() {
-    local tie=()
-    [ "$tied" != yes ] || tie=(setpriv --pdeathsig KILL)
+    hand_on
     if [ -n "$memory" ]; then
         # Where the system allows less, that is what there is.
         (ulimit -d $((memory * 1024)) 2>/dev/null; exec "${tie[@]}" "$program" "$@") <&0 &
@@ -47,17 +56,41 @@ start_program() {
 run_program() {
     trap end_by_signal INT QUIT TERM HUP
     start_program "$@"
-    if [ -t 2 ]; then
-        use nap uses
-        show_use "$running" </dev/null >/dev/null &
-        watcher=$!
-    fi
+    [ ! -t 2 ] || watch_program "$@"
     wait_for_program
     if [ -n "$watcher" ]; then
         { kill -KILL "$watcher"; wait "$watcher"; } 2>/dev/null
         watcher=''
         printf '\033[K' >&2
     fi
+}
+
+# watch_program WORD..: shows on the terminal what the run uses, and what is known so far. Where the search is bounded by the clock
+# or in its memory, no second one runs beside it.
+watch_program() {
+    local scouts=no
+    command -v python3 >/dev/null && open_room || return 0
+    [[ $1 != plan && $1 != plan-all || $tied != yes || -n $memory$seconds ]] || scouts=yes
+    "${tie[@]}" python3 "$root/launch/progress.py" "$running" "$room" "$scouts" "$@" </dev/null >/dev/null &
+    watcher=$!
+}
+
+# open_room: a folder for reports that are not shown yet.
+open_room() {
+    [ -z "$room" ] || return 0
+    trap end_by_signal INT QUIT TERM HUP
+    room=$(mktemp -d) && return
+    say "there is no folder for a report: $TMPDIR cannot be written"
+    status=6
+    return 1
+}
+
+# tell_known: what was known of a search that is interrupted.
+tell_known() {
+    local known=''
+    [[ -n $room && ${words[0]-} == plan* ]] || return 0
+    [ ! -r "$room/known" ] || read -r known <"$room/known"
+    if [ -n "$known" ]; then say "known so far: $known"; elif [ -t 2 ]; then say "nothing is known so far"; fi
 }
 
 # wait_for_program: sets status. The signal of the timer interrupts the first wait, and is no end.

@@ -33,7 +33,7 @@ options_of() {
 tell_options() {
     awk -F '  +' -v names=" $* " '
         index(names, " " $1 " ") {
-            printf "  %-13s %-20s %-9s %s\n", $1, $2, $3 == "-" ? "" : "(" $3 ")", $5
+            printf "  %-13s %-20s %-9s %s\n", $1, $2 == "-" ? "" : $2, $3 == "-" ? "" : "(" $3 ")", $5
         }' "$root/launch/help/options.txt"
 }
 
@@ -84,72 +84,4 @@ tell_version() {
         echo "sources $(<"$root/release/SOURCES")"
     fi
     [ ! -r "$root/release/TOOLCHAIN" ] || echo "the release was proved with $(<"$root/release/TOOLCHAIN")"
-}
-
-# nearest WORD LIST..: the first of the list that is nearest to the word by single letters put in, left out or exchanged,
-# where at most a third of its letters differ.
-nearest() {
-    awk -v word="$1" -v list="${*:2}" '
-        function least(a, b) { return a < b ? a : b }
-        function distance(a, b,  i, j, old, now, keep) {
-            for (j = 0; j <= length(b); j++) now[j] = j
-            for (i = 1; i <= length(a); i++) {
-                old = now[0]; now[0] = i
-                for (j = 1; j <= length(b); j++) {
-                    keep = now[j]
-                    now[j] = least(least(now[j], now[j - 1]) + 1, old + (substr(a, i, 1) != substr(b, j, 1)))
-                    old = keep
-                }
-            }
-            return now[length(b)]
-        }
-        BEGIN {
-            count = split(list, names, " "); best = length(word) / 3 + 1
-            for (n = 1; n <= count; n++) {
-                d = distance(word, names[n])
-                if (d <= best && d > 0) { best = d - 0.1; found = names[n] }
-            }
-            if (found) print found
-        }'
-}
-
-# tell_refused WORD..: for words that are not taken, what was perhaps meant, and which commands there are. Where standard
-# error is a terminal, the help of the command too.
-tell_refused() {
-    find_commands
-    tell_nearest "$@"
-    say "these words are not taken. Commands: ${commands// /, }, help; $called COMMAND --help tells the words of one"
-    if [ -t 2 ]; then
-        if is_command "${1-}"; then tell_help "$1" "$called " >&2; else tell_words >&2; fi
-    fi
-}
-
-# tell_nearest WORD..: for words that were not taken, the command and the options that were perhaps meant.
-tell_nearest() {
-    local word meant
-    if ! is_command "${1-}"; then
-        # shellcheck disable=SC2086 # commands are words
-        meant=$(nearest "${1-}" $commands)
-        [ -z "$meant" ] || say "there is no command $1: is it $meant?"
-    fi
-    for word in "${@:2}"; do
-        case $word in
-        --?*) tell_option "${1-}" "${word%%=*}" ;;
-        esac
-    done
-}
-
-# tell_option COMMAND OPTION: where the command does not take it, that it does not, or which option was perhaps meant.
-tell_option() {
-    local taken meant
-    taken=$(options_of "$1")
-    case " $taken | $(options_of '') " in
-    *" $2 "*"|"*) ;;
-    *"|"*" $2 "*) say "$1 takes no option $2" ;;
-    *)
-        # shellcheck disable=SC2086 # options are words
-        meant=$(nearest "$2" $taken)
-        [ -z "$meant" ] || say "there is no option $2: is it $meant?"
-        ;;
-    esac
 }

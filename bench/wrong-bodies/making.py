@@ -1,5 +1,5 @@
 """The making of a quick program of these sources with wrong bodies beside the right functions."""
-import json, pathlib, re, shutil, subprocess, tempfile
+import concurrent.futures, json, pathlib, re, shutil, subprocess, tempfile
 
 from bodies import ROOT, edited, places
 from combined import MAINS, ROOT_CRATE, TESTS, WAITS, combine
@@ -7,6 +7,8 @@ from variants import Module, Program, compiled, linked, same_numbers
 from wrong_bodies import ABSENT
 
 PARTS = 4
+# So many modules are made at once.
+AT_ONCE = 2
 REFUSED = re.compile(r"crates/(\w+)/(src/[\w/]+\.rt):(\d+):\d+: error")
 
 def in_program():
@@ -82,19 +84,20 @@ def stands_as(crate):
 
 class Making:
     """The making of the program with all bodies."""
-    def __init__(self):
-        self.right = built({})
+    def __init__(self, right):
+        self.right = right
         self.program, self.numbers, self.bad, self.left, self.batch = Program(self.right), {}, {}, {}, 0
 
-    def take(self, edits):
-        """Takes the bodies of a batch, without those that the compiler refuses."""
+    def take(self, edits, made):
+        """Takes the bodies of a batch, as it is made, without those that the compiler refuses."""
         try:
-            module = built(edits)
+            module = made()
         except RuntimeError as error:
             refused = {key for key in edits if refuses(key, edits, str(error))} or set(edits)
             self.bad |= {key: str(error).strip().split("\n")[-2:][0] for key in refused}
-            if len(refused) < len(edits):
-                self.take({key: it for key, it in edits.items() if key not in refused})
+            rest = {key: it for key, it in edits.items() if key not in refused}
+            if rest:
+                self.take(rest, lambda: built(rest))
             return
         if not same_numbers(module, self.right):
             raise SystemExit("the modules number their attributes apart")
@@ -141,11 +144,15 @@ def refuses(key, edits, said):
 
 def make(bodies, folder):
     """Makes the program of some bodies in a folder."""
-    making = Making()
-    making.left = bodies
-    while making.left:
-        these, making.left = making.left, {}
-        for batch in batches(these):
-            making.take(batch)
-            print(f"{len(making.numbers)} of {len(bodies)} bodies are in the program, {len(making.bad)} are not", flush=True)
+    with concurrent.futures.ThreadPoolExecutor(AT_ONCE) as pool:
+        right, listed = pool.submit(built, {}), batches(bodies)
+        begun = [pool.submit(built, it) for it in listed]
+        making = Making(right.result())
+        while listed:
+            for batch, module in zip(listed, begun):
+                making.take(batch, module.result)
+                print(f"{len(making.numbers)} of {len(bodies)} bodies are in the program, {len(making.bad)} are not", flush=True)
+            these, making.left = making.left, {}
+            listed = batches(these)
+            begun = [pool.submit(built, it) for it in listed]
     making.written(folder)

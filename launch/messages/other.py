@@ -1,0 +1,157 @@
+"""Faults of kinds `syntax`, `deep` and `unsupported`."""
+import re
+
+TIMED = re.compile(r"[0-9]+(\.[0-9]+)?:?\Z")
+
+
+def of_syntax(source, at, which):
+    """The sentence, by what stands at the offset."""
+    if which == "proof":
+        return "this line is none of a certificate, or of another spelling than the one that prove writes"
+    if which == "LRAT":
+        return "this line is none of a proof in the text form of LRAT, or is cut off"
+    at_end = at == len(source.text)
+    if which == "model":
+        if at_end:
+            return "the values, lines that begin with v, have no 0 at their end"
+        return "a solver prints no such line of a model, or a value in it is the contrary of one before it"
+    depth, ended = lists_before(source.text, at)
+    byte = of_byte(source.text, at)
+    if at_end:
+        return "the file ends inside a list, which is not closed" if depth else "the file has no list"
+    if byte:
+        return byte
+    if which == "plan":
+        return of_call(source.text, at, depth)
+    if depth == 0 and ended:
+        head = re.match(r"(?:;[^\n]*\n|\s)*\(\s*([^\s();]*)", source.text)
+        ask = f": is '(define' missing before '({head[1]}'?" if head and head[1] in ("domain", "problem") else ""
+        return f"a file is one list, and something stands after it{ask}"
+    if depth == 0:
+        ask = ": is a parenthesis missing before it?" if source.text[at : at + 6].lower() == "define" else ""
+        return f"a file is one list, and something stands before it{ask}"
+    return "this byte may stand in a comment alone"
+
+
+def lists_before(text, at):
+    """How many lists are open at an offset, and whether one has ended outside of all others."""
+    depth, ended = 0, False
+    for found in re.finditer(r";[^\n]*|[()]", text[:at]):
+        if found[0] == "(":
+            depth += 1
+        elif found[0] == ")":
+            depth = max(depth - 1, 0)
+            ended = ended or depth == 0
+    return depth, ended
+
+
+def of_byte(text, at):
+    """What a byte is that may stand in a comment alone; nothing for one that may stand elsewhere."""
+    rest = text[at : at + 3]
+    if rest == "\xef\xbb\xbf":
+        return "the file begins with a byte order mark, which is no part of PDDL: save it as UTF-8 without one"
+    if rest[:2] == "\xc2\xa0":
+        return "a no-break space stands here (U+00A0): write a plain blank"
+    if rest[:2] in ("\xff\xfe", "\xfe\xff"):
+        return "the file is UTF-16: save it as plain text (ASCII or UTF-8)"
+    if rest in ("\xe2\x80\x90", "\xe2\x80\x91", "\xe2\x80\x92", "\xe2\x80\x93", "\xe2\x80\x94", "\xe2\x88\x92"):
+        return "a dash of another kind stands here: types come behind '-'"
+    if rest[:1] > "~":
+        return "a letter that is not ASCII stands here: it may stand in a comment alone"
+    return ""
+
+
+def of_call(text, at, depth):
+    """What is wrong in a plan file."""
+    rest = text[at:]
+    word = re.match(r"[^\s();]*", rest)[0]
+    if rest[0] == "(":
+        return "a call is empty" if depth == 0 else "a list stands inside a call"
+    if depth == 0 and TIMED.match(word):
+        return f"'{word}' is a time: times are taken with --timed, which leaves them out"
+    if depth == 0 and word[:1] == "[" and re.match(r"\[[0-9. ]*\]", rest):
+        return f"'{word}' is a duration: durations are taken with --timed, which leaves them out"
+    if depth == 0 and word:
+        return f"'{word}' stands outside of a call; a call is (ACTION OBJECT ..), and what is no call has to be a comment, which begins with ;"
+    if depth == 0:
+        return "a parenthesis is closed here that none opens, or this byte may stand in a comment alone"
+    return "this byte may stand in a comment alone"
+
+
+def open_notes(source):
+    """Where the outermost list that is not closed begins, and the first section that begins inside of another list."""
+    opened, inner = [], None
+    for found in re.finditer(r";[^\n]*|[()]", source.text):
+        if found[0] == "(":
+            if len(opened) >= 2 and source.text[found.end() : found.end() + 1] == ":" and inner is None:
+                inner = found.start(), opened[1]
+            opened.append(found.start())
+        elif found[0] == ")" and opened:
+            opened.pop()
+    if not opened:
+        return
+    yield opened[0], "the outermost list that is open begins here"
+    if inner:
+        where = source.where(inner[1])
+        yield inner[0], f"this section begins inside of the list of {where}: is that one to be closed before?"
+
+
+def open_call(source, at):
+    """Of a list inside a call: where the call begins, if that is in a line before."""
+    begin = source.text.rfind("(", 0, at)
+    if source.text[at : at + 1] == "(" and begin >= 0 and source.place(begin)[0] < source.place(at)[0]:
+        yield begin, "the call that begins here is not closed"
+
+
+NUMBERS = ("increase", "decrease", "assign", "scale-up", "scale-down", ":metric", ":functions")
+COMPARES = ("<", ">", "<=", ">=")
+
+
+def of_unsupported(spot):
+    """PDDL that is not taken, by its word and where it stands."""
+    word = spot.item.word if spot.item.word is not None else spot.item.head()
+    section = spot.path[1].head() if len(spot.path) > 1 else ""
+    if word in NUMBERS:
+        return f"'{word}' is not taken: where these are action costs alone, without-costs takes them away"
+    if word == "=":
+        what = spot.item.items[1].text() if len(spot.item.items or []) > 1 else word
+        return f"{what} is a numeric fluent, and numbers are not taken: where these are action costs alone, without-costs takes them away"
+    if word in COMPARES:
+        return "numbers are not taken, and so are not compared"
+    if word == ":durative-action":
+        return "actions that take time are not taken"
+    if word in (":derived", ":axiom"):
+        return "derived predicates are not taken"
+    if word in (":constraints", "preference"):
+        return "constraints and preferences are not taken"
+    if word == "either":
+        return "'either' is not taken: declare a type above these types, and use it"
+    if section == ":goal":
+        return of_goal(word)
+    if word in ("or", "imply", "exists"):
+        in_effect = is_effect(spot)
+        return f"'{word}' is no effect" if in_effect else f"'{word}' is not taken in conditions: part the action into several"
+    if word == "forall":
+        return "'forall' is not taken in conditions, nor inside of 'when': write its instances"
+    if word == "when":
+        return "'when' is not taken in conditions, nor inside of 'when'"
+    if word == "not":
+        return "'not' is taken of an atom alone: write the contrary of what stands in it"
+    return f"'{word}' is PDDL that is not taken here"
+
+
+def of_goal(word):
+    """What is not taken in a goal: an action can not be parted there, but one can be added."""
+    if word in ("or", "exists", "imply"):
+        return f"'{word}' is not taken in a goal: write a problem for each case"
+    if word == "forall":
+        return "'forall' is not taken in a goal: write its instances"
+    return f"'{word}' is not taken in a goal"
+
+
+def is_effect(spot):
+    """Whether the spot lies in the effect of an action, and in no condition of it."""
+    if len(spot.path) < 3 or spot.path[1].head() != ":action":
+        return False
+    key = spot.path[1].items[spot.places[2] - 1].word
+    return key == ":effect" and not any(tree.head() == "when" and place == 1 for tree, place in zip(spot.path, spot.places[1:]))
