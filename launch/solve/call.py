@@ -61,12 +61,10 @@ class Call:
         say(self.tool, *words)
 
     def tell_place(self, line):
-        """On standard error where in the user's files a fault is, or which limit is passed, by the parts of the launcher."""
-        import subprocess  # (it takes longer to read than a short call)
-        script = 'say() { printf "%s: %s\\n" "$name" "$*" >&2; }; root=$1 name=$2; . "$root/launch/places.bash"; ' \
-                 'use commands words faults sentences; tell_line "$3" "$4" "$5" "" "$6"'
-        subprocess.run(["bash", "-c", script, "bash", self.root, self.tool, line, *self.paths, "plan"], stdin=subprocess.DEVNULL,
-                       stdout=subprocess.DEVNULL, check=False)
+        """On standard error where in the user's files a fault is, or which limit is passed."""
+        sys.path.append(os.path.join(self.root, "launch"))
+        from messages.calls import tell_line  # (it takes longer to read than a short call)
+        tell_line(line, dict(zip(("domain", "problem"), self.paths)), "plan")
 
 
 def say(tool, *words):

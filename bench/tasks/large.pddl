@@ -1,4 +1,4 @@
-; Thirty crates and a hundred bays: more facts than the planner's limit of 2,048.
+;; depot: Thirty crates and a hundred bays: more facts than the planner's limit of 2,048.
 (define (domain depot)
   (:requirements :strips :typing)
   (:types crate bay)
@@ -26,3 +26,19 @@
            (lies p13 l46) (lies p14 l49) (lies p15 l52) (lies p16 l55) (lies p17 l58) (lies p18 l61)
            (lies p19 l64) (lies p20 l67) (lies p21 l70) (lies p22 l73) (lies p23 l76) (lies p24 l79)
            (lies p25 l82) (lies p26 l85) (lies p27 l88) (lies p28 l91) (lies p29 l94) (lies p30 l97))))
+
+;; quartet: Quartets of twenty-four players: more tuples of parameters than the planner's limit of 4,000,000.
+(define (domain quartet)
+  (:requirements :strips :typing :equality)
+  (:types player piece)
+  (:predicates (free ?p - player) (knows ?p - player ?t - piece) (played ?t - piece))
+  (:action play :parameters (?a ?b ?c ?d ?e - player ?t - piece)
+    :precondition (and (free ?a) (free ?b) (free ?c) (free ?d) (free ?e) (knows ?a ?t) (knows ?b ?t) (not (= ?a ?b)) (not (= ?c ?d)))
+    :effect (and (played ?t) (not (free ?a)) (not (free ?b)) (not (free ?c)) (not (free ?d)))))
+(define (problem concert) (:domain quartet)
+  (:objects m1 m2 m3 m4 m5 m6 m7 m8 m9 m10 m11 m12 m13 m14 m15 m16 m17 m18 m19 m20 m21 m22 m23 m24 - player haydn bartok ravel - piece)
+  (:init (free m1) (free m2) (free m3) (free m4) (free m5) (free m6) (free m7) (free m8) (free m9) (free m10)
+         (free m11) (free m12) (free m13) (free m14) (free m15) (free m16) (free m17) (free m18) (free m19) (free m20)
+         (free m21) (free m22) (free m23) (free m24)
+         (knows m1 haydn) (knows m2 haydn) (knows m3 bartok) (knows m4 bartok) (knows m5 ravel) (knows m6 ravel))
+  (:goal (and (played haydn) (played bartok) (played ravel))))
