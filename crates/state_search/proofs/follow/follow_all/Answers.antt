@@ -1,4 +1,4 @@
-use Rattle.std.proofs.Common.{◌≡◌, ◌∙◌, ap, sym, subst}
+use Rattle.std.proofs.Common.{◌∙◌, ap, sym, subst}
 use Rattle.state_store.specs.Store.{Stored}
 use Rattle.state_search.specs.own.Walk.{HasNoGoal}
 use Rattle.state_search.proofs.ClosingLaw.{goal_offered, none_offered}
