@@ -10,6 +10,7 @@ abbrev pub left_at_end : Option ℕ → Left
 left_at_end None = left.Nothing
 left_at_end (Some u) = left.One u
 
+-- what a clause tells as it is looked through
 abbrev pub left_from : (ℕ → Bool) → Option ℕ → List ℕ → Left
 left_from set one [] = left_at_end one
 left_from set None (l ∷ c) = if set (opposite l) then left_from set None c else left_from set (Some l) c
