@@ -1,13 +1,12 @@
 # shellcheck shell=bash disable=SC2034,SC2154 # the parts set variables for one another
 # Runs of a program, that end with their caller. To be read by scripts that have set root.
 
-running='' watcher='' timer='' room='' leftover='' late=no
+running='' watcher='' timer='' room='' leftover='' late=no terminal=''
 
 # end_by_signal: ends all that runs, removes what is half made, and ends with 130.
 end_by_signal() {
     trap '' INT QUIT TERM HUP
     [ -z "$running" ] || kill -KILL "$running" 2>/dev/null
-    [ ! -t 2 ] || printf '\033[K' >&2
     tell_known
     stop_all
     exit 130
@@ -70,6 +69,7 @@ run_program() {
 watch_program() {
     local scouts=no
     command -v python3 >/dev/null && open_room || return 0
+    [ -n "$terminal" ] || exec {terminal}>&2
     [[ $1 != plan && $1 != plan-all || $tied != yes || -n $memory$seconds ]] || scouts=yes
     "${tie[@]}" python3 "$root/launch/progress.py" "$running" "$room" "$scouts" "$@" </dev/null >/dev/null &
     watcher=$!
@@ -85,13 +85,15 @@ open_room() {
     return 1
 }
 
-# tell_known: what was known of a search that is interrupted.
+# tell_known: what was known of a search that is interrupted on a terminal. Standard error may be turned away where a trap begins.
 tell_known() {
     local known=''
-    [[ -n $room && ${words[0]-} == plan* ]] || return 0
+    [ -n "$terminal" ] || return 0
+    printf '\033[K' >&"$terminal"
+    [[ ${words[0]-} == plan || ${words[0]-} == plan-all ]] || return 0
     [ ! -r "$room/known" ] || read -r known <"$room/known"
-    if [ -n "$known" ]; then say "known so far: $known"; elif [ -t 2 ]; then say "nothing is known so far"; fi
-}
+    say "${known:+known so far: }${known:-nothing is known so far}" 2>&"$terminal"
+} 2>/dev/null
 
 # wait_for_program: sets status. The signal of the timer interrupts the first wait, and is no end.
 wait_for_program() {

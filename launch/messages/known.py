@@ -87,7 +87,7 @@ def next_command(called, has_solve, command, words, files, status, horizon=None)
     if status == 1 and last.isdigit() and int(last) < 255:
         more = without(words, "--max-horizon") + ["--max-horizon", str(min(255, max(16, 2 * int(last))))]
         return f"next: {called} {joined([command, *more])}   looks for longer plans"
-    if status == 2 and value_of(words, "--alg", "a") != "c":
+    if status in (2, 124) and value_of(words, "--alg", "a") != "c":
         more = without(words, "--alg", "--quota", "--percent") + ["--alg", "c"]
         return f"next: {called} {joined([command, *more])}   often finds a plan sooner, with growing horizons"
     if status == 2 and budget.isdigit() and int(budget) < 1000000:

@@ -66,12 +66,12 @@ def of_section(spot, kind):
             return f"a section is expected, and '{item.word}' stands here: a comment begins with ;"
         return f"a section is expected, a list that begins with one of {', '.join(known)}, and the word '{item.word}' stands here"
     head = item.head()
+    if head not in known and head in SECTIONS[OTHER[kind]]:
+        return f"'{head}' is a section of a {OTHER[kind]}, and this file is a {kind}"
     if head == ":goal":
         return ":goal has no condition; one that always holds is (:goal ())"
     if head == ":action":
         return of_whole_action(item)
-    if head in SECTIONS[OTHER[kind]]:
-        return f"'{head}' is a section of a {OTHER[kind]}, and this file is a {kind}"
     if head in known:
         return f"something is missing in '{head}', or is too much"
     if ":" + head in known:

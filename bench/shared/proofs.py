@@ -3,6 +3,10 @@
 A line `ID LITERALS 0 HINTS 0` follows where the id is above all before it, each hint names a clause that is kept, and with the
 literals false each hint but the last has exactly one literal that is not false, which has no value and becomes true, while all
 literals of the last are false. A line `ID d IDS 0` follows where each id names a clause that is kept, and drops them."""
+import pathlib, sys
+
+sys.path.append(str(pathlib.Path(__file__).resolve().parents[2] / "launch"))
+from lrat import line_of
 
 def clauses_of(text):
     """The number of variables of a formula in the DIMACS format, and its clauses."""
@@ -33,14 +37,13 @@ def due_of(variables, clauses, lines, horizon):
     kept, last, entries = dict(enumerate(clauses, 1)), len(clauses), 0
     for number, words in enumerate(lines, 1):
         rejected = f"; rejected line {number}\n", 1
-        if words[1] == "d":
-            for name in map(int, words[2:-1]):
-                if kept.pop(name, None) is None:
+        name, literals, hints = line_of(words)
+        if literals is None:
+            for it in hints:
+                if kept.pop(it, None) is None:
                     return rejected
                 entries += 1
             continue
-        end = words.index("0", 1)
-        name, literals, hints = int(words[0]), [int(it) for it in words[1:end]], [int(it) for it in words[end + 1:-1]]
         lawful = len({abs(it) for it in literals}) == len(literals) and all(abs(it) <= variables for it in literals)
         if name <= last or not lawful or not leads_to_conflict(kept, literals, hints):
             return rejected
