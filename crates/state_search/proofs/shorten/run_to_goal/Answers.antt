@@ -1,4 +1,4 @@
-use Rattle.std.proofs.Common.{arith, rules, refl, ◌≡◌, ◌<◌, ◌+◌, ◌∙◌, ℕ, List, Bool, ap, sym, subst, length, drop}
+use Rattle.std.proofs.Common.{arith, rules, refl, ◌≡◌, ◌+◌, ◌∙◌, List, Bool, ap, sym, subst, length, drop}
 use Rattle.std.specs.Prelude.{slice_index_or}
 use Rattle.std.proofs.lemmas.List.{drop_more}
 use Rattle.gt_core.specs.Literal.{state_of}
