@@ -8,10 +8,10 @@ use crate::ground::ground_task;
 use crate::task::{task_with, tree_of};
 use containers::let_go;
 use grounder::Grounded;
-use input_files::stop::Stop;
 use pd_model::Pddl;
 use pd_sexp::Tree;
 use plan_endings::File;
+use plan_endings::stop::Stop;
 use std::alloc::Global;
 
 /// A task, and what it is grounded to.
