@@ -3,6 +3,7 @@ use Rattle.plan_endings.specs.declared.stop.Stop.{Stop}
 use Rattle.plan_endings.specs.Ends.{EndsAs, ending_in}
 use Rattle.plan_endings.proofs.published.Stopped.{ending_answers}
 use Rattle.plan_endings.specs.declared.ending.Ending.{Ending}
+use Rattle.plan_endings.specs.declared.ending.Ending.TheVariants.{Usage}
 use Rattle.plan_top.proofs.Promises.{status_apart, plan_runs, refuted_steps, refuted_plans, least, unfinished, lines, ground_told, order_told, reached, read_fault, usage, not_taken, no_command, same_report, complete, certified, verified, accepted, rejected, batch, parts_are_so, as_alone, not_reached, exhausted, found_steps, every_order_runs, proved_plan, passes, proves_refuted, proves_found}
 use Rattle.plan_top.proofs.top.run.Goals as goal
 
