@@ -6,7 +6,7 @@ use state_search::follow::Offer;
 use std::alloc::Global;
 
 /// How many costs are told apart in the queue.
-const KEYS: usize = 65_536;
+const KEYS: usize = 60_000;
 
 /// The states by cost, for each state where its actions begin and end, and the actions.
 #[derive(Drop)]
