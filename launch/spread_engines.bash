@@ -130,14 +130,15 @@ add_unit() {
 
 # tell_progress RUNNING: on a terminal, one line that is written over.
 tell_progress() {
-    local n open=0 refuted=$((most_refuted < first ? 0 : most_refuted - first + 1))
+    local n open=0 reported=0 refuted=$((most_refuted < first ? 0 : most_refuted - first + 1))
     [ -t 2 ] || return 0
     for ((n = first; n <= last; n++)); do
         case ${known[n]-} in
         open | limit) open=$((open + 1)) ;;
-        reported) [ "$n" -le "$most_refuted" ] || refuted=$((refuted + 1)) ;;
+        reported) reported=$((reported + 1)) ;;
         esac
     done
+    [ "$reported" = 0 ] || open="$reported reported, $open"
     printf '\033[Khorizons %s to %s: %s refuted, %s open, %s running%s; %s s\r' "$first" "$last" "$refuted" "$open" "$1" \
         "$([ "$least_plan" -gt "$last" ] || echo ", a plan of $least_plan steps")" "$SECONDS" >&2
 }

@@ -1,6 +1,7 @@
 # shellcheck shell=bash disable=SC2034,SC2154 # the parts set variables for one another
 # What the results of a folder come to. Nothing that a job wrote is taken on trust: sums are compared, the certificate and the
-# plan on which the answer rests are checked by the program of this checkout, and only then is anything said.
+# plan on which the answer rests are checked by the program of this checkout, and only then is anything said. What a job reports
+# without a certificate is told as such, and decides nothing.
 
 # value_of FILE NAME
 value_of() {
@@ -121,16 +122,16 @@ tell_table() {
 
 # tell_answer FOLDER: the sentences that follow. Sets ends.
 tell_answer() {
-    local least=$((certified > reported ? certified : reported)) from
+    local from
     if [ "$found" -ge 0 ]; then
         field_of "$1/h/$found/result" file
         echo "A plan of $found steps, which was checked: h/$found/${field% *}"
         ends=0
-    elif [ "$least" = "$last" ]; then
+    elif [ "$certified" = "$last" ]; then
         echo "Every horizon up to $last is refuted."
         ends=1
     else
-        from=$((least + 1 > first ? least + 1 : first))
+        from=$((certified + 1 > first ? certified + 1 : first))
         if [ "$from" = "$last" ]; then
             echo "Horizon $last is not decided."
         else
@@ -145,8 +146,7 @@ tell_answer() {
             "and one is enough for all below it."
     fi
     if [ "$reported" -gt "$certified" ]; then
-        echo "Horizon $reported is refuted by the planner's report, without a certificate, which would be too long:" \
-            "no plan of at most $reported actions."
+        echo "Reported, and not known: a job says that horizon $reported is refuted, without a certificate, which would be too long."
     fi
     if [ "$found" -gt 0 ] && [ "$certified" = $((found - 1)) ]; then
         echo "$found is the least number of steps."

@@ -8,7 +8,7 @@ TOKEN = re.compile(r"""
     | (?P<number>\d\w*(?:\.\d+)?)
     | (?P<name>\w+)
     | (?P<mark>\.\.=|\.\.\.|<<=|->|=>|::|\.\.|&&|\|\||<<|[-+*/%&|^<>=!]=|.)""", re.S | re.X)
-PROOF = re.compile(r"\s*(?:(?:pub )?ghost|requires|ensures|invariant|decreases|proves)\b")
+PROOF = re.compile(r"\s*(?:(?:pub(?:\([^)]*\))? )?ghost|requires|ensures|invariant|decreases|proves)\b")
 
 def tokens_of(text):
     """The tokens of a file."""

@@ -1,4 +1,4 @@
-"""Runs of a program, measured: what scripts of all folders share. In each stands a link to this file, so that they import it."""
+"""Runs of a program, measured: what scripts of all folders share."""
 import ctypes, os, pathlib, re, signal, subprocess, sys, tempfile, threading, time
 from typing import NamedTuple
 
@@ -47,12 +47,17 @@ def measured(words, folder=".", limit=None, processors=None, rules=None):
         status = None if late.is_set() else os.waitstatus_to_exitcode(ended)
         return Run(status, out.read_bytes(), err.read_bytes(), took, used.ru_utime + used.ru_stime, used.ru_maxrss * 1024 / 1e6)
 
-def planner(name=None):
-    """The program with this name, or the one that ./plan-build makes."""
-    program = pathlib.Path(name).resolve() if name else CRATES.parent / "out/proved/plan_prog"
-    if not program.exists():
-        sys.exit(f"no program {program}: ./plan-build makes one")
-    return program
+def planner(name=None, program="plan_prog"):
+    """The program with this name, or the one that ./plan-build makes, else that of the release, where ./dokyreva has unpacked it."""
+    places = [pathlib.Path(name).resolve()] if name else [CRATES.parent / "out" / it / program for it in ("proved", "release")]
+    found = next((it for it in places if it.exists()), None)
+    if not found:
+        sys.exit(f"no program {places[0]}: ./plan-build makes one")
+    return found
+
+def judge(name=None):
+    """The same of the program that judges."""
+    return planner(name, "judge_prog")
 
 def launched():
     """The variables for the C library that the launcher sets for the program."""

@@ -1,6 +1,6 @@
 """The inputs on which wrong bodies are run, each with what is due of it: the rows of bench/check, cases, random inputs of which an
 ordinary program tells what is due, inputs that are written for single bodies (aimed.py), and runs in which an allocation fails."""
-import importlib.machinery, importlib.util, os, pathlib, random, select, subprocess, sys, tempfile
+import contextlib, importlib.machinery, importlib.util, os, pathlib, random, select, subprocess, sys, tempfile, threading
 from typing import NamedTuple
 
 import aimed
@@ -47,8 +47,7 @@ class Input(NamedTuple):
         if not self.fed:
             return open("/dev/null", "rb")
         out, into = os.pipe()
-        os.write(into, self.fed)
-        os.close(into)
+        threading.Thread(target=feed, args=(into, self.fed)).start()
         return open(out, "rb")
 
     def out(self):
@@ -70,6 +69,11 @@ class Input(NamedTuple):
                     return None
                 text = b"" if self.room == -1 else told(out)
         return (without_comments(text) if self.shows.startswith(FORMULA) else text), run.returncode
+
+def feed(into, text):
+    """Writes a text into a pipe, whose reader may end before it is whole."""
+    with contextlib.suppress(BrokenPipeError), open(into, "wb") as out:
+        out.write(text)
 
 def ends(run):
     """Whether a run ends; one whose threads all sleep at each of some looks is ended."""
@@ -109,30 +113,20 @@ def script(path):
     return made
 
 def rows(program, folder):
-    """The runs of bench/check/rows, and of a row of very many some."""
-    made, planner = script(CHECK / "rows"), folder.parent / PLANNER
-    planner.write_text(f'#!/bin/sh\nexec {program} {PLANNER} "$@"\n')
-    planner.chmod(0o755)
-    made.make_files(planner, folder)
+    """The runs of bench/check/rows of both programs that need no changed files and no process that is made otherwise, and of a row of very
+    many some."""
+    made, programs = script(CHECK / "rows"), {}
+    for kind in (PLANNER, JUDGE):
+        programs[kind] = folder.parent / kind
+        programs[kind].write_text(f'#!/bin/sh\nexec {program} {kind} "$@"\n')
+        programs[kind].chmod(0o755)
+    made.make_files(programs, folder)
     for shows, runs in made.rows(folder):
         for run in runs[:: 1 + len(runs) // MOST_RUNS]:
-            yield Input(f"row {shows}", tuple(run.words.split(" ")) if run.words else (), folder, run.text, run.status, run.room)
-
-def rows_of_judge(folder):
-    """Those runs of bench/check/judge whose input is a file."""
-    made = script(CHECK / "judge")
-    for name, text in made.FILES.items():
-        (folder / name).write_text(text)
-    for words, status, text in made.RUNS:
-        yield Input(f"row {words}", tuple(words.split()), folder, text.encode(), status, kind=JUDGE)
-    for listed, words in (made.PROOFS, "judge lamp dark 0"), (made.MODELS, "model lamp dark 1"):
-        for at, (shows, given, status, text) in enumerate(listed):
-            name = f"{words.split()[0]}{at}"
-            (folder / name).write_bytes(given)
-            yield Input(f"row {shows}", (*words.split(), name), folder, text.encode(), status, kind=JUDGE)
-    for name, shows, entries, _, _ in made.KEPT:
-        words = "judge", "domain.pddl", "problem.pddl", "3", name
-        yield Input(f"row {shows}", words, CHECK / "proofs", f"; refuted horizon 3 entries {entries}\n".encode(), 0, kind=JUDGE)
+            plain = run.changes is None and run.shut is None and not run.due.more and not run.due.made
+            if plain and run.program in programs and (run.room is None or run.room >= 0) and (run.first is None or run.room is not None):
+                words = tuple(run.command(programs)[1:])
+                yield Input(f"row {shows}", words, folder, run.text, run.status, run.room, run.fed or b"", kind=run.program)
 
 def tests():
     """Each test, which is due to end well; one of them prints."""
@@ -202,9 +196,9 @@ def wanting(program, shared, count, folder):
 
 def listed(program, shared, count, folder):
     """All inputs: rows, tests, cases, random ones, those that are written for bodies, and those in which memory is wanting."""
-    for name in ("rows", "judge", "aimed"):
+    for name in ("rows", "aimed"):
         (folder / name).mkdir()
-    found = [*rows(program, folder / "rows"), *rows_of_judge(folder / "judge"), *tests(), *aimed.layers(Input, folder)]
+    found = [*rows(program, folder / "rows"), *tests(), *aimed.layers(Input, folder)]
     if shared:
         made = script(shared / "tools/compare")
         found += cases(shared / "cases")

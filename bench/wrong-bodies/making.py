@@ -1,11 +1,14 @@
 """The making of a quick program of these sources with wrong bodies beside the right functions."""
-import json, pathlib, re, shutil, subprocess, tempfile
+import concurrent.futures, json, pathlib, re, shutil, subprocess, tempfile
 
-from bodies import ABSENT, ROOT, edited, pairs, places
+from bodies import ROOT, edited, places
 from combined import MAINS, ROOT_CRATE, TESTS, WAITS, combine
 from variants import Module, Program, compiled, linked, same_numbers
+from wrong_bodies import ABSENT
 
 PARTS = 4
+# So many modules are made at once.
+AT_ONCE = 2
 REFUSED = re.compile(r"crates/(\w+)/(src/[\w/]+\.rt):(\d+):\d+: error")
 
 def in_program():
@@ -24,15 +27,15 @@ def below(program):
             left += lines[name]
     return found
 
-def is_code(crate, edit):
-    """Whether an edit can be made, and changes code."""
-    return not edited(crate, [edit])[1] and any(it[0].startswith("src/") for it in pairs(edit.read_text()))
+def is_code(body):
+    """Whether a body can be made, and changes code."""
+    return not edited(body.crate, [body])[1] and any(it[0].startswith("src/") for it in body.pairs())
 
 def batches(bodies):
     """The bodies in lists of which each is made in one module: no two of a list change functions of one name, or one text."""
     made = []
     for key, edit in bodies.items():
-        spots = {(key[0], it.name) for it in places(key[0], edit)} or {(key[0],)}
+        spots = {(key[0], it.name) for it in places(edit)} or {(key[0],)}
         fits = next((it for it in made if goes_with(it, key, edit, spots)), None)
         if fits:
             fits[0][key] = edit
@@ -72,7 +75,7 @@ def built(edits):
 
 def is_of(symbol, key, edit):
     """Whether a function of a module is one that a body changes, or stands in it; any of its crate where it changes more than functions."""
-    here, crate = places(key[0], edit), stands_as(key[0])
+    here, crate = places(edit), stands_as(key[0])
     return any(re.match(rf'"?{crate}::(.*::)?{it.name}(::|\+|<|"|$)', symbol) for it in here) if here else is_in(symbol, crate)
 
 def stands_as(crate):
@@ -81,19 +84,20 @@ def stands_as(crate):
 
 class Making:
     """The making of the program with all bodies."""
-    def __init__(self):
-        self.right = built({})
+    def __init__(self, right):
+        self.right = right
         self.program, self.numbers, self.bad, self.left, self.batch = Program(self.right), {}, {}, {}, 0
 
-    def take(self, edits):
-        """Takes the bodies of a batch, without those that the compiler refuses."""
+    def take(self, edits, made):
+        """Takes the bodies of a batch, as it is made, without those that the compiler refuses."""
         try:
-            module = built(edits)
+            module = made()
         except RuntimeError as error:
             refused = {key for key in edits if refuses(key, edits, str(error))} or set(edits)
             self.bad |= {key: str(error).strip().split("\n")[-2:][0] for key in refused}
-            if len(refused) < len(edits):
-                self.take({key: it for key, it in edits.items() if key not in refused})
+            rest = {key: it for key, it in edits.items() if key not in refused}
+            if rest:
+                self.take(rest, lambda: built(rest))
             return
         if not same_numbers(module, self.right):
             raise SystemExit("the modules number their attributes apart")
@@ -131,7 +135,7 @@ def refuses(key, edits, said):
     """Whether the compiler refuses what a body puts in, or a line beside it."""
     texts = edited(key[0], [edit for other, edit in edits.items() if other[0] == key[0]])[0]
     for crate, file, line in REFUSED.findall(said):
-        for name, _, new in pairs(edits[key].read_text()):
+        for name, _, new in edits[key].pairs():
             if (crate, file) == (key[0], name) and new in texts[file]:
                 first = texts[file][: texts[file].index(new)].count("\n")
                 if first <= int(line) <= first + new.count("\n") + 2:
@@ -140,11 +144,15 @@ def refuses(key, edits, said):
 
 def make(bodies, folder):
     """Makes the program of some bodies in a folder."""
-    making = Making()
-    making.left = bodies
-    while making.left:
-        these, making.left = making.left, {}
-        for batch in batches(these):
-            making.take(batch)
-            print(f"{len(making.numbers)} of {len(bodies)} bodies are in the program, {len(making.bad)} are not", flush=True)
+    with concurrent.futures.ThreadPoolExecutor(AT_ONCE) as pool:
+        right, listed = pool.submit(built, {}), batches(bodies)
+        begun = [pool.submit(built, it) for it in listed]
+        making = Making(right.result())
+        while listed:
+            for batch, module in zip(listed, begun):
+                making.take(batch, module.result)
+                print(f"{len(making.numbers)} of {len(bodies)} bodies are in the program, {len(making.bad)} are not", flush=True)
+            these, making.left = making.left, {}
+            listed = batches(these)
+            begun = [pool.submit(built, it) for it in listed]
     making.written(folder)

@@ -1,23 +1,10 @@
-use Rattle.std.proofs.Common.{arith, ◌≡◌, ℕ, zero, suc, ◌<◌, List, [], ◌∷◌, map, length, true, false, refl, sym, ap, ◌∙◌, inl, inr}
-use Rattle.std.proofs.lemmas.Bool.{cases_lt}
-use Rattle.gt_core.specs.Literal.{is_in}
-use Rattle.action_order.specs.Graph.{IsClassed, class_at, item}
-use Rattle.action_order.specs.Walk.{mark_of, IsWalk, number_of}
+use Rattle.std.proofs.Common.{arith, ◌≡◌, ℕ, zero, suc, ◌<◌, List, [], ◌∷◌, map, length, refl, sym, ap, ◌∙◌}
+use Rattle.action_order.specs.own.Graph.{IsClassed, class_at, item}
+use Rattle.action_order.specs.own.Walk.{mark_of, IsWalk, number_of}
 use Rattle.action_order.specs.declared.walk.Mark.{Mark}
 use Rattle.action_order.specs.declared.walk.Mark.TheVariants.{Unseen, At, Done}
 
 -- The finished walk gives the components.
-
--- with no work left the stack is empty
-pub stack_empty : (targets : List (List ℕ)) (marks : List Mark) (stack starts work roots : List ℕ) → IsWalk targets marks stack starts work roots → length work ≡ 0 → length stack ≡ 0
-stack_empty targets marks stack starts work roots w e = elim (cases_lt 0 (length stack)) [
-  | inl h ↦ absurd (none work e 0 (w.starts_in_work 0 (w.bottom h)))
-  | inr h ↦ omega arith
-]
-  where
-    none : (xs : List ℕ) → length xs ≡ 0 → (x : ℕ) → is_in xs x ≡ true → ⊥
-    none [] e x i = let f : false ≡ true = i in cc
-    none (y ∷ xs) e x i = omega arith
 
 mark_done : (m : Mark) → (m ≡ Unseen → ⊥) → ((p : ℕ) → m ≡ At p → ⊥) → m ≡ Done (number_of m)
 mark_done Unseen h g = absurd (h refl)

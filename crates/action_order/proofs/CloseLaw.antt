@@ -5,11 +5,11 @@ use Rattle.bit_sets.specs.Rows.{row_has}
 use Rattle.std.proofs.lemmas.Bool.{cases_lt, cases_eq}
 use Rattle.gt_core.specs.Literal.{is_in}
 use Rattle.gt_core.specs.Published.{Reaches, Pairwise}
-use Rattle.action_order.specs.Graph.{leads, item}
-use Rattle.action_order.specs.Walk.{mark_of, IsSeen, IsOpen, IsSegmentStart, AreFinished, IsWalk, KeepsSeen, MarksFrom, is_unseen, is_stacked, AreSets, TakesFrom}
+use Rattle.action_order.specs.own.Graph.{leads, item}
+use Rattle.action_order.specs.own.Walk.{mark_of, IsSeen, IsOpen, IsSegmentStart, AreFinished, IsWalk, KeepsSeen, MarksFrom, is_unseen, is_stacked, AreSets, TakesFrom}
 use Rattle.action_order.specs.declared.walk.Mark.{Mark}
 use Rattle.action_order.specs.declared.walk.Mark.TheVariants.{Unseen, At, Done}
-use Rattle.action_order.proofs.Lists.{push_old, push_new, place_cases, in_push, in_push_new, in_push_old, rising_front, rising_last, reaches_more}
+use Rattle.action_order.proofs.published.Lists.{push_old, push_new, place_cases, in_push, in_push_new, in_push_old, rising_front, rising_last, reaches_more}
 use Rattle.action_order.proofs.WalkLaw.{at_apart, not_done, done_same, unseen_at, unseen_done, mark_cases, marked_below}
 
 -- The last segment of the stack, whose edges were all followed, is a component.

@@ -5,20 +5,20 @@ use Rattle.std.proofs.lemmas.List.{get_or_past}
 use Rattle.std.proofs.lemmas.Bool.{cases_lt}
 use Rattle.std.proofs.lemmas.Bool.Decides.{nat_tests}
 use Rattle.bit_sets.specs.Rows.{row_has}
-use Rattle.bit_sets.proofs.WordLaw.{zero_has}
+use Rattle.bit_sets.proofs.published.WordLaw.{zero_has}
 use Rattle.gt_core.specs.Literal.{opposite, range}
 use Rattle.gt_core.specs.Task.{Action}
 use Rattle.gt_core.specs.Active.{EffectWithin}
 use Rattle.gt_core.specs.Interference.{action_needs, action_asks, action_disables, actions_clash, actions_together, exclusive}
-use Rattle.gt_core.proofs.Basics.{passing, any_at, any_same, each_at, and_split, and_both, or_split, same_if, apart, not_true}
-use Rattle.gt_core.proofs.Literals.{in_among, among_in, among_range, below_range}
-use Rattle.action_order.specs.Graph.{row_at, leads, IsGraph}
-use Rattle.action_order.specs.Readers.{ActionWithin, act_at, AreRowsOf, AreExclusions, needs, asks_of, is_excluded}
-use Rattle.action_order.specs.Sure.{AreSure}
-use Rattle.action_order.specs.Edges.{edge_in, AreEdges, is_touched, is_in_rows, is_opposed, surely}
+use Rattle.gt_core.proofs.published.Basics.{passing, any_at, any_same, each_at, and_split, and_both, or_split, same_if, apart, not_true}
+use Rattle.gt_core.proofs.published.Literals.{in_among, among_in, among_range, below_range}
+use Rattle.action_order.specs.own.Graph.{row_at, leads, IsGraph}
+use Rattle.action_order.specs.own.Readers.{ActionWithin, act_at, AreRowsOf, AreExclusions, needs, asks_of, is_excluded}
+use Rattle.action_order.specs.own.Sure.{AreSure}
+use Rattle.action_order.specs.own.Edges.{edge_in, AreEdges, is_touched, is_in_rows, is_opposed, surely}
 use Rattle.action_order.proofs.ReadersLaw.{opposite_below}
 use Rattle.action_order.proofs.SureLaw.{clash_is}
-use Rattle.gt_core.proofs.Lists.{each_number}
+use Rattle.gt_core.proofs.published.Lists.{each_number}
 
 -- The row of an action has the actions to which an edge leads.
 

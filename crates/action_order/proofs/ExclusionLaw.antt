@@ -2,10 +2,10 @@ use Rattle.std.proofs.Common.{arith, ◌≡◌, ◌==◌, ℕ, ◌*◌, ◌<◌,
 use Rattle.bit_sets.specs.Rows.{row_has}
 use Rattle.gt_core.specs.Literal.{opposite, range}
 use Rattle.gt_core.specs.Interference.{has_clause, exclusive}
-use Rattle.gt_core.proofs.Basics.{passing, any_at, and_split, and_both, or_split, or_left, or_right, same_test, test_same}
-use Rattle.gt_core.proofs.Literals.{opposite_twice, among_range, below_range}
-use Rattle.action_order.specs.Graph.{row_at}
-use Rattle.action_order.specs.Readers.{is_excluded}
+use Rattle.gt_core.proofs.published.Basics.{passing, any_at, and_split, and_both, or_split, or_left, or_right, same_test, test_same}
+use Rattle.gt_core.proofs.published.Literals.{opposite_twice, among_range, below_range}
+use Rattle.action_order.specs.own.Graph.{row_at}
+use Rattle.action_order.specs.own.Readers.{is_excluded}
 use Rattle.action_order.proofs.ReadersLaw.{opposite_below}
 
 -- Which actions have a precondition that a literal excludes: by its opposite, by a clause with its opposite, or by a

@@ -5,10 +5,10 @@ use Rattle.std.proofs.lemmas.List.{get_or-set_same, get_or-set_other}
 use Rattle.std.proofs.lemmas.List.Elements.{filter-append}
 use Rattle.std.proofs.lemmas.Bool.{cases_eq}
 use Rattle.gt_core.specs.Literal.{range}
-use Rattle.gt_core.proofs.Basics.{not_true, same_test, test_same}
-use Rattle.action_order.specs.Graph.{class_at}
-use Rattle.action_order.specs.Group.{members_below}
-use Rattle.action_order.proofs.Lists.{range_more}
+use Rattle.gt_core.proofs.published.Basics.{not_true, same_test, test_same}
+use Rattle.action_order.specs.own.Graph.{class_at}
+use Rattle.action_order.specs.own.Group.{members_below}
+use Rattle.action_order.proofs.published.Lists.{range_more}
 use Rattle.std.proofs.lemmas.List.{append-nil}
 
 -- One more vertex goes to the group of its component.

@@ -3,7 +3,7 @@ use Rattle.std.specs.Prelude.{slice_index_or}
 use Rattle.std.specs.List.{list_any}
 use Rattle.std.proofs.lemmas.List.{take_more, at_drop_more}
 use Rattle.gt_core.specs.Literal.{is_in, range}
-use Rattle.action_order.proofs.Lists.{range_more}
+use Rattle.action_order.proofs.published.Lists.{range_more}
 use Rattle.std.proofs.Math.Bool.{or-false, or_comm}
 use Rattle.std.proofs.lemmas.List.Folds.{list_any-append}
 

@@ -1,4 +1,3 @@
-pub mod Lists
 pub mod GrowLaw
 pub mod ReadersLaw
 pub mod SureLaw
@@ -13,5 +12,5 @@ pub mod SortingLaw
 pub mod GroupLaw
 pub mod ListedLaw
 pub mod OrderLaw
-pub mod PublishLaw
 pub mod ExclusionLaw
+pub mod published

@@ -3,17 +3,16 @@ use Rattle.std.specs.List.{AllByRecursion}
 use Rattle.std.proofs.lemmas.Bool.{cases_eq}
 use Rattle.gt_core.specs.Literal.{is_in, range, range_from}
 use Rattle.gt_core.specs.Published.{Reaches, here, along, IsMutual, IsComponent, IsReady, IsNext, IsListed, Pairwise}
-use Rattle.gt_core.proofs.Basics.{Among, each_at, each_from, not_true, or_left, or_right, or_split, same_test, test_same, apart}
-use Rattle.gt_core.proofs.Literals.{in_among, among_in, in_split, in_left, in_right, among_range, below_range}
-use Rattle.gt_core.proofs.Pairwise.{pairwise_filter, filtered, into_filter}
-use Rattle.action_order.specs.Graph.{leads, item, class_at, IsGraph, IsClassed}
-use Rattle.action_order.specs.Quotient.{IsQuotient, AreNames}
-use Rattle.action_order.specs.Sorting.{IsTakenNext, AreTaken, IsTopologicalOrder}
+use Rattle.gt_core.proofs.published.Basics.{Among, each_at, each_from, not_true, or_left, or_right, or_split, same_test, test_same, apart}
+use Rattle.gt_core.proofs.published.Literals.{in_among, among_in, in_split, in_left, in_right, among_range, below_range}
+use Rattle.gt_core.proofs.published.Pairwise.{pairwise_filter, filtered, into_filter}
+use Rattle.action_order.specs.own.Graph.{leads, item, class_at, IsGraph, IsClassed}
+use Rattle.action_order.specs.own.Quotient.{IsQuotient, AreNames}
+use Rattle.action_order.specs.own.Sorting.{IsTakenNext, AreTaken, IsTopologicalOrder}
 use Rattle.std.specs.Prelude.{if◌then◌else◌}
-use Rattle.gt_core.specs.Published.{order_of}
 use Rattle.action_order.specs.Order.{name_in}
-use Rattle.action_order.specs.Group.{members, listed}
-use Rattle.action_order.proofs.Lists.{in_push, in_push_new, in_push_old}
+use Rattle.action_order.specs.own.Group.{members, listed}
+use Rattle.action_order.proofs.published.Lists.{in_push, in_push_new, in_push_old}
 
 -- The sorted components are the published order of the graph.
 
@@ -223,13 +222,6 @@ module _ (targets : List (List ℕ)) (classes roots : List ℕ) (rows : List (Li
         | inl e ↦ absurd (s (sym (test_same c (class_at classes a) e)))
         | inr j ↦ j
       ])))
-
-  pub listed_below : (order : List ℕ) (a : ℕ) → is_in (order_of (listed classes order)) a ≡ true → a < length targets
-  listed_below [] a i = absurd (let f : false ≡ true = i in cc)
-  listed_below (c ∷ order) a i = elim (in_split (members classes c) (order_of (listed classes order)) a i) [
-    | inl j ↦ (member_of c a j).0
-    | inr j ↦ listed_below order a j
-  ]
 
 -- a name by the number of its component
 pub name_item : (names classes : List ℕ) (a : ℕ) → a < length classes → item (map (item names) classes) a ≡ item names (class_at classes a)

@@ -6,12 +6,12 @@ use Rattle.std.proofs.lemmas.List.{get_or_read}
 use Rattle.std.proofs.lemmas.List.Sums.{sum_by-set, sum_by-cons}
 use Rattle.bit_sets.specs.Rows.{row_has, IsLeastFrom}
 use Rattle.gt_core.specs.Literal.{is_in}
-use Rattle.gt_core.proofs.Basics.{and_split, and_both, not_true, test_same, same_test}
-use Rattle.action_order.specs.Graph.{leads, row_at, item}
-use Rattle.action_order.specs.Walk.{mark_of, is_unseen, IsWalk, AllReach, IsLast, ends_with}
+use Rattle.gt_core.proofs.published.Basics.{and_split, and_both, not_true, same_test}
+use Rattle.action_order.specs.own.Graph.{leads, row_at, item}
+use Rattle.action_order.specs.own.Walk.{mark_of, is_unseen, IsWalk, AllReach, IsLast, ends_with}
 use Rattle.action_order.specs.declared.walk.Mark.{Mark}
 use Rattle.action_order.specs.declared.walk.Mark.TheVariants.{Unseen, At}
-use Rattle.action_order.proofs.Lists.{reaches_more, reaches_edge, last_in, last_greatest}
+use Rattle.action_order.proofs.published.Lists.{reaches_more, reaches_edge, last_in, last_greatest}
 use Rattle.action_order.proofs.WalkLaw.{common_in}
 
 -- What one move of the walk may rely on, and that the work that is left falls.
@@ -82,12 +82,6 @@ module _ (targets : List (List ℕ)) (marks : List Mark) (stack starts work root
       let some : nat_lt 0 (length starts) ≡ true = let s = some_start in grind (arith, nat_tests) in
       let both : ends_with place starts ≡ true = and_both (nat_lt 0 (length starts)) (top_start == place) some same in
       let f : true ≡ false = sym both ∙ e in cc)
-
-pub is_last : (xs : List ℕ) (x : ℕ) → ends_with x xs ≡ true → IsLast xs x
-is_last xs x e =
-    let p = and_split (nat_lt 0 (length xs)) (item xs (length xs - 1) == x) e in
-    let a : nat_lt 0 (length xs) ≡ true = p.0 in
-    record { some = grind (arith, nat_tests); is = test_same _ _ p.1 }
 
 -- the lists of marks with the same vertices that were not seen
 pub same_unseen : (before after : List Mark) → length after ≡ length before → ((v : ℕ) → is_unseen (mark_of after v) ≡ is_unseen (mark_of before v)) → count_by is_unseen after ≡ count_by is_unseen before

@@ -5,12 +5,12 @@ use Rattle.std.proofs.lemmas.List.{length-append, get_or-set_same, get_or-set_ot
 use Rattle.std.proofs.lemmas.Bool.{cases_lt}
 use Rattle.gt_core.specs.Literal.{is_in}
 use Rattle.gt_core.specs.Published.{IsListed, Pairwise, order_of}
-use Rattle.gt_core.proofs.Basics.{each_at, each_from, apart, same_test, test_same, not_true, not_split}
-use Rattle.gt_core.proofs.Literals.{in_among, among_in}
-use Rattle.gt_core.proofs.Pairwise.{pairwise_filter, filtered}
-use Rattle.action_order.specs.Graph.{item, class_at, IsClassed}
+use Rattle.gt_core.proofs.published.Basics.{each_at, each_from, apart, same_test, test_same, not_true, not_split}
+use Rattle.gt_core.proofs.published.Literals.{in_among, among_in}
+use Rattle.gt_core.proofs.published.Pairwise.{pairwise_filter, filtered}
+use Rattle.action_order.specs.own.Graph.{item, class_at, IsClassed}
 use Rattle.action_order.specs.Order.{IsOrder}
-use Rattle.action_order.proofs.Lists.{place_of, in_at}
+use Rattle.action_order.proofs.published.Lists.{place_of, in_at}
 
 -- The look-ups of an order, and how long it is.
 

@@ -4,20 +4,12 @@ use Rattle.std.proofs.lemmas.List.{length-set, get_or-set_same, get_or-set_other
 use Rattle.std.proofs.lemmas.Bool.{cases_eq}
 use Rattle.std.proofs.lemmas.Bool.Decides.{nat_tests}
 use Rattle.bit_sets.specs.Rows.{row_has}
-use Rattle.gt_core.proofs.Basics.{and_split, and_both, not_split, not_false, not_true, or_split, or_left, or_right, same_test, test_same, apart}
-use Rattle.action_order.specs.Graph.{leads, row_at, IsGraph, class_at, IsClassed}
-use Rattle.action_order.specs.Quotient.{Crosses, AreUnited, IsWithoutOwn, IsQuotient, AreNames}
-use Rattle.action_order.specs.Sorting.{AreNamedComponents}
+use Rattle.gt_core.proofs.published.Basics.{and_split, and_both, not_split, not_false, not_true, or_split, or_left, or_right, same_test, test_same, apart}
+use Rattle.action_order.specs.own.Graph.{leads, row_at, IsGraph, class_at, IsClassed}
+use Rattle.action_order.specs.own.Quotient.{Crosses, AreUnited, IsWithoutOwn, IsQuotient, AreNames}
+use Rattle.action_order.specs.own.Sorting.{AreNamedComponents}
 
 -- The rows of the vertices go into those of their components, and the own vertices out of them.
-
--- no row yet
-pub none_united : (targets : List (List ℕ)) (classes : List ℕ) (count : ℕ) (rows : List (List ℕ)) → length rows ≡ count → ((c b : ℕ) → row_has (row_at rows c) b ≡ false) → AreUnited targets classes count (length targets) rows
-none_united targets classes count rows long none = record {
-  long = long;
-  sound = λ c b e. absurd (apart (leads rows c b) e (none c b));
-  complete = λ a b from lt e. absurd (omega arith);
-}
 
 -- the row of one more vertex
 module _ (targets : List (List ℕ)) (classes : List ℕ) (count a : ℕ) (rows : List (List ℕ)) (row : List ℕ) (u : AreUnited targets classes count (a + 1) rows) (lt : a < length targets) (below : class_at classes a < count) (joined : (b : ℕ) → row_has row b ≡ (row_has (row_at rows (class_at classes a)) b || leads targets a b)) where

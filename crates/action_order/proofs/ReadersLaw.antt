@@ -7,10 +7,10 @@ use Rattle.bit_sets.specs.Rows.{row_has}
 use Rattle.gt_core.specs.Literal.{opposite}
 use Rattle.gt_core.specs.Task.{Effect, Action}
 use Rattle.gt_core.specs.Active.{EffectWithin}
-use Rattle.gt_core.proofs.Basics.{each_at, each_from, same_test, test_same, apart}
-use Rattle.action_order.specs.Graph.{row_at}
-use Rattle.action_order.specs.Readers.{ActionWithin, IsEntered, AreRowsOf, act_at}
-use Rattle.gt_core.proofs.Lists.{each_number}
+use Rattle.gt_core.proofs.published.Basics.{each_at, each_from, same_test, test_same, apart}
+use Rattle.action_order.specs.own.Graph.{row_at}
+use Rattle.action_order.specs.own.Readers.{ActionWithin, IsEntered, AreRowsOf, act_at}
+use Rattle.gt_core.proofs.published.Lists.{each_number}
 
 -- The rows of readers.
 

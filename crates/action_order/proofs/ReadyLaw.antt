@@ -6,10 +6,10 @@ use Rattle.std.specs.BTreeSet.{insert_key}
 use Rattle.std.specs.BTreeMap.Range.{IsLtBy}
 use Rattle.std.proofs.lemmas.Bool.Decides.{nat_tests}
 use Rattle.gt_core.specs.Literal.{is_in}
-use Rattle.gt_core.proofs.Basics.{or_split, or_left, or_right, same_test, test_same}
-use Rattle.action_order.specs.Graph.{item}
-use Rattle.action_order.specs.KeySet.{IsFirst, IsWith}
-use Rattle.action_order.proofs.Lists.{place_of}
+use Rattle.gt_core.proofs.published.Basics.{or_split, or_left, or_right, same_test, test_same}
+use Rattle.action_order.specs.own.Graph.{item}
+use Rattle.action_order.specs.own.KeySet.{IsFirst, IsWith}
+use Rattle.action_order.proofs.published.Lists.{place_of}
 
 -- An ordered set of numbers by what stands in it.
 

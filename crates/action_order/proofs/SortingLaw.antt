@@ -4,14 +4,14 @@ use Rattle.std.proofs.lemmas.Bool.{cases_lt, cases_eq, cases_Bool}
 use Rattle.std.specs.List.{AllByRecursion}
 use Rattle.std.proofs.lemmas.List.Sums.{sum_by-set}
 use Rattle.gt_core.specs.Literal.{is_in, range}
-use Rattle.gt_core.proofs.Basics.{or_split, test_same, apart, not_true}
-use Rattle.gt_core.proofs.Literals.{among_in, among_range}
-use Rattle.action_order.specs.Graph.{leads, class_at, item}
-use Rattle.action_order.specs.Sorting.{list_at, is_taken, IsTakenNext, AreTaken, IsTopologicalOrder, IsReadyName, Waits, IsSorting, AreNamedComponents}
-use Rattle.action_order.specs.KeySet.{IsFirst, IsWith}
-use Rattle.action_order.proofs.Lists.{in_push, in_push_new, in_push_old}
+use Rattle.gt_core.proofs.published.Basics.{or_split, test_same, apart, not_true}
+use Rattle.gt_core.proofs.published.Literals.{among_in, among_range}
+use Rattle.action_order.specs.own.Graph.{leads, class_at, item}
+use Rattle.action_order.specs.own.Sorting.{list_at, is_taken, IsTakenNext, AreTaken, IsTopologicalOrder, IsReadyName, Waits, IsSorting, AreNamedComponents}
+use Rattle.action_order.specs.own.KeySet.{IsFirst, IsWith}
+use Rattle.action_order.proofs.published.Lists.{in_push, in_push_new, in_push_old}
 use Rattle.std.proofs.lemmas.List.{length-replicate}
-use Rattle.containers.proofs.Made.{get_or-replicate_default}
+use Rattle.containers.proofs.published.Made.{get_or-replicate_default}
 
 -- What each move of the sorting keeps.
 
@@ -20,21 +20,6 @@ module _ (rows : List (List ℕ)) (names classes : List ℕ) where
   reordered : (taken : List Bool) (passed : List ℕ) (waiting : List (List ℕ)) (ready more order free left : List ℕ) → IsSorting rows names classes taken passed waiting ready order free → ((k : ℕ) → is_in more k ≡ true → IsReadyName rows names classes order k) → ((x : ℕ) → x < length rows → is_in order x ≡ false → (is_in more (item names x) ≡ true) ⊎ ((Waits rows waiting classes order x) ⊎ (is_in left x ≡ true))) → IsSorting rows names classes taken passed waiting more order left
   reordered taken passed waiting ready more order free left d ready_is covered =
       record { taken_long = d.taken_long; passed_long = d.passed_long; waiting_long = d.waiting_long; waiting_below = d.waiting_below; marks = d.marks; order_below = d.order_below; passed_taken = d.passed_taken; ready_is = ready_is; covered = covered; sorting = d.sorting }
-
-  -- a component that is taken need not be looked at
-  pub taken_before : (taken : List Bool) (passed : List ℕ) (waiting : List (List ℕ)) (ready order free : List ℕ) (c : ℕ) → c < length rows → IsSorting rows names classes taken passed waiting ready order (c ∷ free) → is_taken taken c ≡ true → IsSorting rows names classes taken passed waiting ready order free
-  taken_before taken passed waiting ready order free c lc d is =
-      reordered taken passed waiting ready ready order (c ∷ free) free d d.ready_is (λ x lx e. elim (d.covered x lx e) [
-        | inl r ↦ inl r
-        | inr w ↦ elim w [
-          | inl h ↦ inr (inl h)
-          | inr i ↦ elim (or_split (c == x) (is_in free x) i) [
-            | inl s ↦ let same = test_same c x s in
-                absurd (apart (is_in order c) (sym (d.marks c lc) ∙ is) (subst (λ (y : ℕ). is_in order y ≡ false) (sym same) e))
-            | inr k ↦ inr (inr k)
-          ]
-        ]
-      ])
 
   -- further targets of a component were found taken
   pub passed_more : (taken : List Bool) (passed : List ℕ) (waiting : List (List ℕ)) (ready order free : List ℕ) (c end : ℕ) → AreNamedComponents rows names classes → c < length rows → IsSorting rows names classes taken passed waiting ready order free → ((b : ℕ) → item passed c ≤ b → b < end → leads rows c b ≡ true → is_taken taken (class_at classes b) ≡ true) → IsSorting rows names classes taken (set passed c end) waiting ready order free

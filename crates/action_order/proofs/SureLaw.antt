@@ -3,11 +3,11 @@ use Rattle.std.specs.Prelude.{slice_index_or, if◌then◌else◌}
 use Rattle.std.specs.List.{list_any, AllByRecursion}
 use Rattle.gt_core.specs.Literal.{opposite, is_in}
 use Rattle.gt_core.specs.Task.{Effect}
-use Rattle.gt_core.proofs.Basics.{passing, any_at, each_at, each_from, and_split, and_both, or_split, or_left, or_right, same_if, test_same}
-use Rattle.gt_core.proofs.Literals.{in_among, among_in, add_opposite, delete_opposite, even_is_add, odd_is_delete, add_is_even, delete_is_odd}
+use Rattle.gt_core.proofs.published.Basics.{passing, any_at, each_at, each_from, and_split, and_both, or_split, or_left, or_right, same_if, test_same}
+use Rattle.gt_core.proofs.published.Literals.{in_among, among_in, add_opposite, delete_opposite, even_is_add, odd_is_delete, add_is_even, delete_is_odd}
 use Rattle.gt_core.specs.Interference.{action_may_make, action_surely_makes, action_surely_loses, actions_clash}
-use Rattle.action_order.specs.Readers.{of_effects}
-use Rattle.action_order.specs.Sure.{is_sure, is_sure_of, makes_surely, AreMade}
+use Rattle.action_order.specs.own.Readers.{of_effects}
+use Rattle.action_order.specs.own.Sure.{is_sure, is_sure_of, makes_surely, AreMade}
 use Rattle.action_order.proofs.GrowLaw.{any_more, in_pushed}
 
 -- The literals that an action surely makes true, and what they say of two actions.

@@ -4,15 +4,15 @@ use Rattle.std.proofs.lemmas.List.{length_push, length-set, get_or-set_same, get
 use Rattle.std.proofs.lemmas.Bool.Decides.{nat_tests}
 use Rattle.bit_sets.specs.Rows.{row_has, IsLeastFrom}
 use Rattle.std.proofs.Math.Bool.{and-false}
-use Rattle.gt_core.proofs.Basics.{and_split, and_both, apart, not_true, test_same, same_test}
+use Rattle.gt_core.proofs.published.Basics.{and_split, and_both, apart, not_true, test_same, same_test}
 use Rattle.std.proofs.lemmas.Bool.{cases_lt, cases_eq}
 use Rattle.gt_core.specs.Literal.{is_in}
 use Rattle.gt_core.specs.Published.{Reaches, here, Pairwise}
-use Rattle.action_order.specs.Graph.{leads, item}
-use Rattle.action_order.specs.Walk.{mark_of, is_unseen, is_stacked, lower, place_of as place_in, IsSeen, IsOpen, IsSegmentStart, AreFinished, IsWalk, AllReach, KeepsSeen, IsLowest, IsLowestBelow, AreSets, MarksFrom, TakesFrom}
+use Rattle.action_order.specs.own.Graph.{leads, item}
+use Rattle.action_order.specs.own.Walk.{mark_of, is_unseen, is_stacked, lower, place_of as place_in, IsSeen, IsOpen, IsSegmentStart, AreFinished, IsWalk, AllReach, KeepsSeen, IsLowest, IsLowestBelow, AreSets, MarksFrom, TakesFrom}
 use Rattle.action_order.specs.declared.walk.Mark.{Mark}
 use Rattle.action_order.specs.declared.walk.Mark.TheVariants.{Unseen, At, Done}
-use Rattle.action_order.proofs.Lists.{push_old, push_new, place_cases, in_push, in_push_new, in_push_old, rising_push, rising_front, rising_last, reaches_more, reaches_edge}
+use Rattle.action_order.proofs.published.Lists.{push_old, push_new, place_cases, in_push, in_push_new, in_push_old, rising_push, rising_front, rising_last, reaches_more, reaches_edge}
 
 -- What each move of the depth-first walk keeps.
 

@@ -1,11 +1,2 @@
-pub mod Graph
-pub mod Walk
-pub mod Quotient
-pub mod KeySet
-pub mod Sorting
-pub mod SortingOf
-pub mod Group
-pub mod Readers
-pub mod Sure
-pub mod Edges
 pub mod Order
+pub mod own

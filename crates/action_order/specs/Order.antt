@@ -1,7 +1,7 @@
 use Rattle.std.specs.Prelude.{◌≡◌, ℕ, ◌<◌, ◌≤◌, List, [], ◌∷◌, true, length, if◌then◌else◌}
 use Rattle.gt_core.specs.Literal.{is_in}
 use Rattle.gt_core.specs.Published.{order_of}
-use Rattle.action_order.specs.Graph.{item}
+use Rattle.action_order.specs.own.Graph.{item}
 
 -- the name of the component in which an action stands: its first action, which is its least
 abbrev pub name_in : List (List ℕ) → ℕ → ℕ

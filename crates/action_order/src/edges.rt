@@ -5,8 +5,8 @@
 ghost use Rattle.std.specs.Prelude.{◌≡◌, ℕ, ◌*◌, ◌<◌, ◌≤◌, ◌&&◌, ◌||◌, not, length, OnOk, IfOk};
 ghost use Rattle.std.specs.List.{AllByRecursion};
 ghost use Rattle.bit_sets.specs.Rows.{row_has};
-ghost use Rattle.action_order.specs.Readers.{ActionWithin, AreRowsOf};
-ghost use Rattle.action_order.specs.Edges.{edge_in, AreEdges, is_reader, is_touched, is_in_rows, is_opposed, surely};
+ghost use Rattle.action_order.specs.own.Readers.{ActionWithin, AreRowsOf};
+ghost use Rattle.action_order.specs.own.Edges.{edge_in, AreEdges, is_reader, is_touched, is_in_rows, is_opposed, surely};
 
 use crate::readers::{enter_literals, find_exclusions, find_readers};
 use crate::sure::all_sure;
@@ -29,7 +29,7 @@ pub struct Rows {
     excluding: Vec<BitRow>,
 }
 
-/// Letting one go is one call, in which its parts go: whoever holds one proves one step.
+/// All parts are let go in one call, so that a proof has one step for it and not one for each part.
 impl Drop for Rows {
     fn drop(self) {
         let_go!(self: Rows { needing, asking, sure, making, excluding });
@@ -104,7 +104,7 @@ fn take_out_opposed(row: &mut BitRow, rows: &[BitRow], lits: &[u32], facts: u32)
 }
 
 impl Rows {
-    ghost use Rattle.action_order.specs.Edges.{AreEdgeRows};
+    ghost use Rattle.action_order.specs.own.Edges.{AreEdgeRows};
 
     /// The rows of some actions.
     fn new(alloc: Global, facts: u32, acts: &[Act], pairs: &Pairs) -> Result<Rows, AllocError>

@@ -2,8 +2,8 @@
 
 ghost use Rattle.std.specs.Prelude.{◌≡◌, ℕ, ◌<◌, ◌≤◌, [], replicate, length, slice_index_or, OnOk, IfOk};
 ghost use Rattle.std.specs.List.{AllByRecursion};
-ghost use Rattle.action_order.specs.Graph.{class_at};
-ghost use Rattle.action_order.specs.Group.{members, listed};
+ghost use Rattle.action_order.specs.own.Graph.{class_at};
+ghost use Rattle.action_order.specs.own.Group.{members, listed};
 
 use crate::numbers::ActNumbers;
 use containers::equal::empty_lists;

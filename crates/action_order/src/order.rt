@@ -24,7 +24,7 @@ impl Model for Order {
     ghost invariant = { λ o. IsOrder o.components.items o.order.items o.places.items o.names.items };
 }
 
-/// Letting one go is one call, in which its parts go: whoever holds one proves one step.
+/// All parts are let go in one call, so that a proof has one step for it and not one for each part.
 impl Drop for Order {
     fn drop(self) {
         let_go!(self: Order { components, order, places, names });

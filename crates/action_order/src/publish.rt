@@ -4,7 +4,7 @@ ghost use Rattle.std.specs.Prelude.{◌≡◌, ℕ, ◌<◌, ◌≤◌, [], leng
 ghost use Rattle.std.specs.List.{AllByRecursion};
 ghost use Rattle.gt_core.specs.Literal.{range};
 ghost use Rattle.gt_core.specs.Published.{IsListed, IsPublished, KeepsApart, HasEachOnce, order_of};
-ghost use Rattle.action_order.specs.Graph.{IsGraph, leads, item};
+ghost use Rattle.action_order.specs.own.Graph.{IsGraph, leads, item};
 ghost use Rattle.action_order.specs.Order.{name_in};
 
 use crate::edges::edges;
@@ -15,7 +15,7 @@ use crate::quotient::{names, quotient};
 use crate::sort::sort_components;
 use crate::walk::find_components;
 use bit_sets::row::BitRow;
-use gt_core::memory::Memory;
+use containers::memory::Memory;
 use gt_core::pairs::Pairs;
 use gt_core::task::Task;
 use std::alloc::{AllocError, Global};

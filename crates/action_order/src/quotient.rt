@@ -1,8 +1,8 @@
 //! The graph of the components, and their names.
 
 ghost use Rattle.std.specs.Prelude.{◌≡◌, ℕ, ◌<◌, ◌≤◌, length, IfOk};
-ghost use Rattle.action_order.specs.Graph.{IsGraph, IsClassed, class_at};
-ghost use Rattle.action_order.specs.Quotient.{AreUnited, IsWithoutOwn, IsQuotient, AreNames};
+ghost use Rattle.action_order.specs.own.Graph.{IsGraph, IsClassed, class_at};
+ghost use Rattle.action_order.specs.own.Quotient.{AreUnited, IsWithoutOwn, IsQuotient, AreNames};
 
 use bit_sets::row::{BitRow, empty_rows};
 use std::alloc::{AllocError, Global};

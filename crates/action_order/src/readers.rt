@@ -7,8 +7,8 @@ ghost use Rattle.bit_sets.specs.Rows.{row_has};
 ghost use Rattle.gt_core.specs.Literal.{is_in, opposite};
 ghost use Rattle.gt_core.specs.Active.{EffectWithin};
 ghost use Rattle.gt_core.specs.Interference.{action_asks, exclusive, has_clause};
-ghost use Rattle.action_order.specs.Graph.{row_at};
-ghost use Rattle.action_order.specs.Readers.{ActionWithin, IsEntered, AreRowsOf, AreExclusions, IsPartOf, IsOpposed, of_effects, needs, asks_of, has_fact, is_excluded};
+ghost use Rattle.action_order.specs.own.Graph.{row_at};
+ghost use Rattle.action_order.specs.own.Readers.{ActionWithin, IsEntered, AreRowsOf, AreExclusions, IsPartOf, IsOpposed, of_effects, needs, asks_of, has_fact, is_excluded};
 
 use bit_sets::row::{BitRow, empty_rows};
 use gt_core::act::Act;

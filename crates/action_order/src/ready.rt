@@ -1,7 +1,7 @@
 //! The names of the components that are ready to be taken.
 
 ghost use Rattle.std.specs.Prelude.{◌≡◌, [], OnOk, IfSome, IfNone};
-ghost use Rattle.action_order.specs.KeySet.{IsFirst, IsWith};
+ghost use Rattle.action_order.specs.own.KeySet.{IsFirst, IsWith};
 
 use std::alloc::{AllocError, Global};
 use std::collections::BTreeSet;

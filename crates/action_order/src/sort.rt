@@ -5,8 +5,8 @@
 ghost use Rattle.std.specs.Prelude.{◌≡◌, ℕ, ◌+◌, ◌<◌, ◌≤◌, [], ◌∷◌, length, drop, true, false, slice_index_or, slice_set, replicate, OnOk, IfOk};
 ghost use Rattle.bit_sets.specs.Rows.{row_has};
 ghost use Rattle.gt_core.specs.Literal.{range};
-ghost use Rattle.action_order.specs.Graph.{class_at};
-ghost use Rattle.action_order.specs.Sorting.{IsPending, IsTopologicalOrder, AreNamedComponents};
+ghost use Rattle.action_order.specs.own.Graph.{class_at};
+ghost use Rattle.action_order.specs.own.Sorting.{IsPending, IsTopologicalOrder, AreNamedComponents};
 
 use crate::numbers::ActNumbers;
 use crate::ready::{put, take_first};
@@ -45,7 +45,7 @@ fn pending(taken: &[bool], numbers: &[usize], row: &BitRow, start: u32) -> Optio
 }
 
 impl TopologicalSort {
-    ghost use Rattle.action_order.specs.SortingOf.{IsSortingOf, TakesNext};
+    ghost use Rattle.action_order.specs.own.SortingOf.{IsSortingOf, TakesNext};
 
     /// Looks at one of the components to be looked at: it is ready, or waits for a target.
     fn settle(

@@ -3,8 +3,8 @@
 ghost use Rattle.std.specs.Prelude.{◌≡◌, ℕ, ◌*◌, ◌<◌, ◌≤◌, false, OnOk, IfOk};
 ghost use Rattle.std.specs.List.{AllByRecursion};
 ghost use Rattle.bit_sets.specs.Rows.{row_has};
-ghost use Rattle.action_order.specs.Readers.{ActionWithin};
-ghost use Rattle.action_order.specs.Sure.{IsSure, AreSure, AreMade, makes_surely};
+ghost use Rattle.action_order.specs.own.Readers.{ActionWithin};
+ghost use Rattle.action_order.specs.own.Sure.{IsSure, AreSure, AreMade, makes_surely};
 
 use bit_sets::row::BitRow;
 use gt_core::act::Act;

@@ -11,8 +11,8 @@
 ghost use Rattle.std.specs.Prelude.{◌≡◌, ℕ, ◌+◌, ◌<◌, ◌≤◌, ◌++◌, [], ◌∷◌, length, map, slice_set, true, false, nat_lt, Some, None, OnOk, IfOk, vec_len};
 ghost use Rattle.bit_sets.specs.Rows.{row_has};
 ghost use Rattle.gt_core.specs.Literal.{is_in};
-ghost use Rattle.action_order.specs.Graph.{item, leads, IsGraph, IsClassed};
-ghost use Rattle.action_order.specs.Walk.{IsLast, MarksFrom, TakesFrom, lower, place_of, ends_past, ends_with, number_of};
+ghost use Rattle.action_order.specs.own.Graph.{item, leads, IsGraph, IsClassed};
+ghost use Rattle.action_order.specs.own.Walk.{IsLast, MarksFrom, TakesFrom, lower, place_of, ends_past, ends_with, number_of};
 
 use bit_sets::row::BitRow;
 use std::alloc::{AllocError, Global};
@@ -40,7 +40,7 @@ pub struct Walk {
 }
 
 impl Walk {
-    ghost use Rattle.action_order.specs.Walk.{mark_of, IsWalkOf, AreSets, KeepsSeen, AllReach, IsLowest, work_left};
+    ghost use Rattle.action_order.specs.own.Walk.{mark_of, IsWalkOf, AreSets, KeepsSeen, AllReach, IsLowest, work_left};
 
     /// Marks a vertex as one at the end of the stack, and puts it there.
     fn stack_up(&mut self, v: u32) -> Result<(), AllocError>

@@ -5,7 +5,7 @@ ghost use Rattle.step_chains.specs.BothWays.{all_places};
 ghost use Rattle.all_steps.specs.Form.{by_both_ways};
 
 use action_order::order::Order;
-use clause_base::memory::Memory;
+use containers::memory::Memory;
 use gt_core::task::Task;
 use std::alloc::Global;
 use step_chains::Chains;

@@ -1,6 +1,6 @@
 use Rattle.std.proofs.Common.{arith, ◌≡◌, ◌==◌, ℕ, zero, suc, ◌+◌, ◌*◌, ◌/◌, ◌%◌, ◌<◌, ◌≤◌, List, [], ◌∷◌, length, get_or, leb, ◌++◌, Bool, true, false, not, refl, sym, ap, ◌∙◌, Some, ltb}
 use Rattle.std.proofs.lemmas.Bool.Decides.{nat_tests}
-use Rattle.bit_sets.proofs.WordLaw.{zero_has}
+use Rattle.bit_sets.proofs.published.WordLaw.{zero_has}
 use Rattle.bit_sets.specs.Layered.{word_has, words_have, IsLeast, IsAbove, IsPast, IsLeastNear}
 
 above_zero : (words : List ℕ) (p : ℕ → Bool) (j : ℕ) → IsAbove words p → p j ≡ false → get_or words j 0 ≡ 0

@@ -1,6 +1,6 @@
 use Rattle.std.proofs.Common.{arith, ◌≡◌, ℕ, ◌*◌, ◌/◌, ◌%◌, ◌<◌, List, length, get_or, set, Bool, sym, ap, ◌∙◌, ◌⊎◌, inl, inr, get_or-set_same, get_or-set_other}
-use Rattle.bit_sets.specs.Words.{word_has}
-use Rattle.bit_sets.proofs.WordLaw.{same_or_apart}
+use Rattle.bit_sets.specs.own.Words.{word_has}
+use Rattle.bit_sets.proofs.published.WordLaw.{same_or_apart}
 
 -- A list of words, one bit of which was changed.
 

@@ -3,7 +3,7 @@ use Rattle.std.proofs.Common.{arith, inl, inr, ◌≡◌, ◌≢◌, ◌==◌, �
 use Rattle.std.proofs.lemmas.Bool.Decides.{nat_tests}
 use Rattle.std.specs.Option.{option_eq}
 use Rattle.std.specs.Prelude.{if◌then◌else◌}
-use Rattle.bit_sets.proofs.WordLaw.{set_same, set_other}
+use Rattle.bit_sets.proofs.published.WordLaw.{set_same, set_other}
 use Rattle.bit_sets.proofs.Changed.{IsChanged, changed_bit}
 use Rattle.bit_sets.specs.Layered.{word_has, word_with, words_have, words_with, bits_with, IsLeast, IsPast, IsInside, IsFirst, IsTakenLeast}
 

@@ -1,7 +1,7 @@
 use Rattle.std.proofs.Common.{arith, ◌≡◌, ℕ, ◌+◌, ◌*◌, ◌/◌, ◌%◌, ◌^◌, ◌<◌, true, false, sym, ◌⊎◌, inl, inr}
 use Rattle.std.specs.Prelude.{List, slice_index}
-use Rattle.bit_sets.specs.Words.{word_has, IsPairAcross}
-use Rattle.bit_sets.proofs.WordLaw.{below_half, same_or_apart}
+use Rattle.bit_sets.specs.own.Words.{word_has, IsPairAcross}
+use Rattle.bit_sets.proofs.published.WordLaw.{below_half, same_or_apart}
 use Rattle.bit_sets.specs.Rows.{row_has}
 
 -- An even number in one row and the next one in another, word by word.

@@ -1,9 +1,9 @@
 use Rattle.std.proofs.Common.{arith, ◌≡◌, ◌≢◌, ◌==◌, ℕ, ◌+◌, ◌*◌, ◌/◌, ◌%◌, ◌<◌, ◌≤◌, List, length, get_or, set, Bool, true, false, not, ◌&&◌, ◌||◌, refl, sym, ap, ◌∙◌, ◌⊎◌, inl, inr, Some, get_or-set_same, get_or-set_other}
 use Rattle.std.specs.Prelude.{nat_le, nat_lt}
 use Rattle.std.proofs.lemmas.Bool.Decides.{nat_tests}
-use Rattle.bit_sets.specs.Words.{IsLeast}
+use Rattle.bit_sets.specs.own.Words.{IsLeast}
 use Rattle.bit_sets.specs.Rows.{word_has, row_has, IsLeastFrom}
-use Rattle.bit_sets.proofs.WordLaw.{zero_has}
+use Rattle.bit_sets.proofs.published.WordLaw.{zero_has}
 use Rattle.bit_sets.proofs.Changed.{IsChanged, changed_bit}
 
 -- Rows, word by word.

@@ -1,5 +1,5 @@
 use Rattle.std.specs.Prelude.{◌≡◌, ℕ, ◌*◌, ◌/◌, ◌%◌, ◌^◌, ◌<◌, ◌≤◌, ◌==◌, ◌&&◌, ◌||◌, List, length, slice_index, slice_set, Bool, true, false, not, Option, Some, None, bit_or}
-pub use Rattle.bit_sets.specs.Words.{word_has, IsLeast}
+pub use Rattle.bit_sets.specs.own.Words.{word_has, IsLeast}
 
 -- whether a list of words has a bit
 abbrev pub words_have : List ℕ → ℕ → Bool
@@ -10,6 +10,7 @@ pub record LayerView (S : Type 0) : Type 0 where
   pub words : List ℕ
   pub above : S
 
+-- a set has just the numbers of the words that are not 0
 abbrev pub IsAbove : List ℕ → (ℕ → Bool) → Type 0
 IsAbove words p = (j : ℕ) → p j ≡ not (slice_index words j == 0)
 
@@ -23,6 +24,7 @@ pub record IsLeastNear (p : ℕ → Bool) (number least : ℕ) : Type 0 where
 abbrev pub word_with : ℕ → ℕ → ℕ
 word_with w b = bit_or w (1 * 2 ^ b % 2 ^ 64)
 
+-- words with the bit of this number, if there is one
 abbrev pub words_with : List ℕ → Option ℕ → List ℕ
 words_with words None = words
 words_with words (Some n) = slice_set words (n / 64) (word_with (slice_index words (n / 64)) (n % 64))

@@ -1,5 +1,5 @@
 use Rattle.std.specs.Prelude.{◌≡◌, ℕ, ◌*◌, ◌/◌, ◌%◌, ◌<◌, ◌≤◌, List, Bool, true, false, Option, Some, None, length, slice_index}
-pub use Rattle.bit_sets.specs.Words.{word_has, IsPairAcross}
+pub use Rattle.bit_sets.specs.own.Words.{word_has, IsPairAcross}
 
 -- A set of numbers is a row of words, 64 numbers to a word.
 

@@ -9,6 +9,7 @@ use std::marker::Model;
 
 /// A set of numbers below 2^32, a bit for each number up to the greatest for which there is room. A new row has no
 /// room; room comes with the numbers that are put in.
+/// Contracts see the list of its words, since a value that contracts see holds no functions.
 #[derive(Drop)]
 pub struct BitRow {
     words: Vec<u64>,

@@ -1,7 +1,7 @@
 //! The bits of one word, counted from the least.
 
 ghost use Rattle.std.specs.Prelude.{◌≡◌, ℕ, ◌<◌, ◌==◌, ◌&&◌, ◌||◌, not, true, false, nat_le, Some};
-ghost use Rattle.bit_sets.specs.Words.{word_has, IsLeast, IsPairAcross};
+ghost use Rattle.bit_sets.specs.own.Words.{word_has, IsLeast, IsPairAcross};
 
 /// Whether a word has a bit.
 pub fn has_bit(word: u64, bit: u32) -> bool

@@ -5,19 +5,19 @@ use Rattle.clause_base.specs.Formula.{Cnf}
 use Rattle.clause_base.specs.Derivation.{clauses_of}
 use Rattle.clause_base.specs.declared.log.Entry.{Entry}
 use Rattle.clause_base.specs.declared.log.Entry.TheVariants.{Learn, Drop}
-use Rattle.cdcl_rules.specs.declared.standing.Standing.{Standing}
-use Rattle.cdcl_rules.specs.declared.standing.Standing.TheVariants.{Going, Found, Refuted}
-use Rattle.cdcl_rules.specs.declared.trail.Assigned.{Assigned}
-use Rattle.cdcl_rules.specs.State.{State}
-use Rattle.cdcl_rules.specs.Learn.{Learned, backtracked}
-use Rattle.cdcl_rules.specs.Reduce.{candidates, first_half, kept_without}
-use Rattle.cdcl_rules.specs.Run.{after_conflict, with_learned, trail_after, dropped_after, is_restart, is_going}
-use Rattle.cdcl_rules.specs.Sound.{IsSound}
-use Rattle.conflict_walk.specs.Analysis.{AnalysisView, IsReady}
-use Rattle.conflict_walk.specs.Clauses.{ClausesView, all_clauses}
-use Rattle.conflict_walk.proofs.Placed.{learned_learn, learned_drops}
+use Rattle.cdcl_defs.specs.declared.standing.Standing.{Standing}
+use Rattle.cdcl_defs.specs.declared.standing.Standing.TheVariants.{Going, Found, Refuted}
+use Rattle.cdcl_defs.specs.declared.trail.Assigned.{Assigned}
+use Rattle.cdcl_defs.specs.State.{State}
+use Rattle.cdcl_defs.specs.Learn.{Learned, backtracked}
+use Rattle.cdcl_defs.specs.Reduce.{candidates, first_half, kept_without}
+use Rattle.cdcl_defs.specs.Run.{after_conflict, with_learned, trail_after, dropped_after, is_restart, is_going}
+use Rattle.cdcl_defs.specs.Sound.{IsSound}
+use Rattle.conflict_analysis.specs.Analysis.{AnalysisView, IsReady}
+use Rattle.conflict_analysis.specs.Clauses.{ClausesView, all_clauses}
+use Rattle.conflict_analysis.proofs.published.Placed.{learned_learn, learned_drops}
 use Rattle.propagation.specs.Pending.{PropagatorView}
-use Rattle.cdcl_core.specs.Search.{SearchView, IsKept, state_of, watched, level_after}
+use Rattle.cdcl_core.specs.own.Search.{SearchView, IsKept, state_of, watched, level_after}
 use Rattle.cdcl_core.proofs.Keeps.{state_same}
 use Rattle.cdcl_core.proofs.Watching.{search_of, watched_now}
 

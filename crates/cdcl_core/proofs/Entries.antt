@@ -1,13 +1,13 @@
 -- The entry of an event that makes a literal true.
 use Rattle.std.proofs.Common.{◌≡◌, ℕ, ◌/◌, ◌<◌, [], ◌∷◌, ◌++◌, Some, None, true, refl, sym, subst}
 use Rattle.clause_base.specs.Formula.{Cnf}
-use Rattle.cdcl_rules.specs.declared.event.Event.{Event}
-use Rattle.cdcl_rules.specs.declared.event.Event.TheVariants.{Conflict, Force, Decide, Finish}
-use Rattle.cdcl_rules.specs.declared.trail.Assigned.{Assigned}
-use Rattle.cdcl_rules.specs.State.{State, value_of}
-use Rattle.cdcl_rules.specs.Run.{apply, is_going}
-use Rattle.cdcl_rules.specs.Sound.{IsSound}
-use Rattle.cdcl_core.specs.Search.{IsNextEvent}
+use Rattle.cdcl_defs.specs.declared.event.Event.{Event}
+use Rattle.cdcl_defs.specs.declared.event.Event.TheVariants.{Conflict, Force, Decide, Finish}
+use Rattle.cdcl_defs.specs.declared.trail.Assigned.{Assigned}
+use Rattle.cdcl_defs.specs.State.{State, value_of}
+use Rattle.cdcl_defs.specs.Run.{apply, is_going}
+use Rattle.cdcl_defs.specs.Sound.{IsSound}
+use Rattle.cdcl_core.specs.own.Search.{IsNextEvent}
 use Rattle.cdcl_core.proofs.Keeps.{next_sound, next_open}
 
 -- an entry is that of an event

@@ -4,30 +4,30 @@ use Rattle.std.proofs.lemmas.List.{append-nil}
 use Rattle.clause_base.specs.Formula.{Cnf, IsWithinVariables}
 use Rattle.clause_base.specs.Clause.{IsClause, IsRising}
 use Rattle.clause_base.specs.declared.log.Entry.{Entry}
-use Rattle.cdcl_rules.specs.declared.standing.Standing.{Standing}
-use Rattle.cdcl_rules.specs.declared.standing.Standing.TheVariants.{Going}
-use Rattle.cdcl_rules.specs.declared.event.Event.{Event}
-use Rattle.cdcl_rules.specs.declared.event.Event.TheVariants.{Conflict, Decide, Finish}
-use Rattle.cdcl_rules.specs.declared.trail.Assigned.{Assigned}
-use Rattle.cdcl_rules.specs.State.{State, clause_at, is_on, values_of}
-use Rattle.cdcl_rules.specs.Trail.{AllFalse}
-use Rattle.cdcl_rules.specs.Pending.{open_ones, first_pending}
-use Rattle.cdcl_rules.specs.Event.{asked, chosen_event}
-use Rattle.cdcl_rules.specs.Learn.{learned, Learned}
-use Rattle.cdcl_rules.specs.Open.{IsOpenEvent}
-use Rattle.cdcl_rules.specs.Run.{start_of, apply, after_conflict, is_going}
-use Rattle.cdcl_rules.proofs.Members.{at_clause}
-use Rattle.cdcl_rules.proofs.Pending.{Asks, asks}
-use Rattle.cdcl_rules.specs.Sound.{IsSound}
-use Rattle.cdcl_rules.proofs.Lawful.{IsGood, good_clause}
-use Rattle.cdcl_rules.proofs.Kept.{conflict_good, learnt, all_rising, sound_next, sound_undropped}
-use Rattle.cdcl_rules.proofs.Fuel.{opens}
-use Rattle.cdcl_rules.proofs.Start.{start_sound}
+use Rattle.cdcl_defs.specs.declared.standing.Standing.{Standing}
+use Rattle.cdcl_defs.specs.declared.standing.Standing.TheVariants.{Going}
+use Rattle.cdcl_defs.specs.declared.event.Event.{Event}
+use Rattle.cdcl_defs.specs.declared.event.Event.TheVariants.{Conflict, Decide, Finish}
+use Rattle.cdcl_defs.specs.declared.trail.Assigned.{Assigned}
+use Rattle.cdcl_defs.specs.State.{State, clause_at, is_on, values_of}
+use Rattle.cdcl_defs.specs.Trail.{AllFalse}
+use Rattle.cdcl_defs.specs.Pending.{open_ones, first_pending}
+use Rattle.cdcl_defs.specs.Event.{asked, chosen_event}
+use Rattle.cdcl_defs.specs.Learn.{learned, Learned}
+use Rattle.cdcl_defs.specs.Open.{IsOpenEvent}
+use Rattle.cdcl_defs.specs.Run.{start_of, apply, after_conflict, is_going}
+use Rattle.cdcl_defs.proofs.published.Members.{at_clause}
+use Rattle.cdcl_defs.proofs.published.Pending.{Asks, asks}
+use Rattle.cdcl_defs.specs.Sound.{IsSound}
+use Rattle.cdcl_defs.proofs.published.Lawful.{IsGood, good_clause}
+use Rattle.cdcl_defs.proofs.published.Kept.{conflict_good, learnt, all_rising, sound_next, sound_undropped}
+use Rattle.cdcl_defs.proofs.published.Fuel.{opens}
+use Rattle.cdcl_defs.proofs.published.Start.{start_sound}
 use Rattle.clause_base.specs.Derivation.{clause_kept}
-use Rattle.conflict_walk.specs.Clauses.{ClausesView}
-use Rattle.conflict_walk.specs.Analysis.{AnalysisView, IsReady}
+use Rattle.conflict_analysis.specs.Clauses.{ClausesView}
+use Rattle.conflict_analysis.specs.Analysis.{AnalysisView, IsReady}
 use Rattle.propagation.specs.Pending.{PropagatorView}
-use Rattle.cdcl_core.specs.Search.{IsKept, IsNextEvent, state_of}
+use Rattle.cdcl_core.specs.own.Search.{IsKept, IsNextEvent, state_of}
 
 -- two states with the same parts
 pub state_same : (n m g h : ℕ) (cs ds : List (List ℕ)) (ks ls : List Bool) (t u : List Assigned) (j k : ℕ) (l i : List Entry) (x y : Standing) → n ≡ m → g ≡ h → cs ≡ ds → ks ≡ ls → t ≡ u → j ≡ k → l ≡ i → x ≡ y → (let s : State = record { variables = n; given = g; clauses = cs; kept = ks; trail = t; conflicts = j; log = l; standing = x } in s) ≡ (let r : State = record { variables = m; given = h; clauses = ds; kept = ls; trail = u; conflicts = k; log = i; standing = y } in r)

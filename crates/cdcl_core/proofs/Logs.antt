@@ -4,15 +4,15 @@ use Rattle.std.proofs.lemmas.List.{append-nil}
 use Rattle.clause_base.specs.Choice.{Known}
 use Rattle.clause_base.specs.declared.log.Entry.{Entry}
 use Rattle.clause_base.specs.declared.log.Entry.TheVariants.{Learn, Drop}
-use Rattle.cdcl_rules.specs.State.{State}
-use Rattle.cdcl_rules.specs.declared.event.Event.{Event}
-use Rattle.cdcl_rules.specs.declared.event.Event.TheVariants.{Conflict, Force, Decide, Finish}
-use Rattle.cdcl_rules.specs.Event.{event_of}
-use Rattle.cdcl_rules.specs.Learn.{learned}
-use Rattle.cdcl_rules.specs.Machine.{turns}
-use Rattle.cdcl_rules.specs.Run.{apply, next, rests, dropped_after}
-use Rattle.cdcl_rules.proofs.Cutting.{Reaches}
-use Rattle.cdcl_core.specs.Search.{GoesOn}
+use Rattle.cdcl_defs.specs.State.{State}
+use Rattle.cdcl_defs.specs.declared.event.Event.{Event}
+use Rattle.cdcl_defs.specs.declared.event.Event.TheVariants.{Conflict, Force, Decide, Finish}
+use Rattle.cdcl_defs.specs.Event.{event_of}
+use Rattle.cdcl_defs.specs.Learn.{learned}
+use Rattle.cdcl_defs.specs.Machine.{turns}
+use Rattle.cdcl_defs.specs.Run.{apply, next, rests, dropped_after}
+use Rattle.cdcl_defs.proofs.published.Cutting.{Reaches}
+use Rattle.cdcl_core.specs.own.Search.{GoesOn}
 
 pub goes_same : (old new : List Entry) → new ≡ old → GoesOn old new
 goes_same old new e = ([], e ∙ sym (append-nil old))

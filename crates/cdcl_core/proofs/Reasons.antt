@@ -6,16 +6,16 @@ use Rattle.std.proofs.lemmas.List.Elements.{All-from_recursion}
 use Rattle.clause_base.specs.Formula.{Cnf}
 use Rattle.clause_base.specs.Literal.{opposite}
 use Rattle.clause_base.specs.Derivation.{clause_kept}
-use Rattle.cdcl_rules.specs.declared.trail.Assigned.{Assigned}
-use Rattle.cdcl_rules.specs.State.{State, clause_at, is_on}
-use Rattle.cdcl_rules.specs.Trail.{HasReason, IsTrail}
-use Rattle.cdcl_rules.proofs.Tests.{or_true}
-use Rattle.cdcl_rules.proofs.Members.{is_in, named_below}
-use Rattle.cdcl_rules.proofs.WalkLaw.{Names}
-use Rattle.cdcl_rules.proofs.Trails.{is_on-reverse}
-use Rattle.cdcl_rules.specs.Sound.{IsSound}
-use Rattle.cdcl_rules.proofs.Logs.{logged_names}
-use Rattle.conflict_walk.specs.Walk.{IsForcedBy, IsReasoned}
+use Rattle.cdcl_defs.specs.declared.trail.Assigned.{Assigned}
+use Rattle.cdcl_defs.specs.State.{State, clause_at, is_on}
+use Rattle.cdcl_defs.specs.Trail.{HasReason, IsTrail}
+use Rattle.cdcl_defs.proofs.published.Tests.{or_true}
+use Rattle.cdcl_defs.proofs.published.Members.{is_in, named_below}
+use Rattle.cdcl_defs.proofs.published.WalkLaw.{Names}
+use Rattle.cdcl_defs.proofs.published.Trails.{is_on-reverse}
+use Rattle.cdcl_defs.specs.Sound.{IsSound}
+use Rattle.cdcl_defs.proofs.published.Logs.{logged_names}
+use Rattle.conflict_analysis.specs.Walk.{IsForcedBy, IsReasoned}
 
 forced_by : (named : ℕ → Option (List ℕ)) (clauses : List (List ℕ)) → Names named clauses → (trail older : List Assigned) (l : ℕ) (o : Option ℕ) → ((m : ℕ) → is_on older m ≡ true → is_on trail m ≡ true) → HasReason named older l o → IsForcedBy clauses trail l o
 forced_by named clauses names trail older l None w h = tt

@@ -1,11 +1,11 @@
 -- The learned clauses that may be dropped, of those that are kept and long.
 use Rattle.std.proofs.Common.{◌≡◌, ℕ, ◌-◌, ◌&&◌, List, [], ◌∷◌, ◌++◌, Bool, true, false, not, nat_lt, length, refl, sym, ap, ◌∙◌, filter, if◌then◌else◌, append_assoc}
 use Rattle.std.specs.List.{range_with_len}
-use Rattle.cdcl_rules.specs.declared.trail.Assigned.{Assigned}
-use Rattle.cdcl_rules.specs.State.{clause_at, is_kept}
-use Rattle.cdcl_rules.specs.Reduce.{has_forced, is_candidate, candidates}
-use Rattle.conflict_walk.specs.Longs.{is_long, long_ones}
-use Rattle.conflict_walk.proofs.Longs.{filter_both}
+use Rattle.cdcl_defs.specs.declared.trail.Assigned.{Assigned}
+use Rattle.cdcl_defs.specs.State.{clause_at, is_kept}
+use Rattle.cdcl_defs.specs.Reduce.{has_forced, is_candidate, candidates}
+use Rattle.conflict_analysis.specs.Longs.{is_long, long_ones}
+use Rattle.conflict_analysis.proofs.published.Longs.{filter_both}
 
 grouped : (a b c : Bool) → (a && (b && c)) ≡ ((a && b) && c)
 grouped true b c = refl

@@ -2,13 +2,13 @@
 use Rattle.std.proofs.Common.{◌≡◌, ℕ, zero, suc, ◌≤◌, Bool, true, false, Option, if◌then◌else◌, refl, sym, subst}
 use Rattle.clause_base.specs.Formula.{Cnf}
 use Rattle.clause_base.specs.Choice.{Known}
-use Rattle.cdcl_rules.specs.State.{State}
-use Rattle.cdcl_rules.specs.Open.{Opens}
-use Rattle.cdcl_rules.specs.Run.{next, is_going}
-use Rattle.cdcl_rules.specs.Sound.{IsSound}
-use Rattle.cdcl_rules.proofs.Kept.{sound_next}
-use Rattle.cdcl_rules.proofs.Cuts.{quiet_short}
-use Rattle.cdcl_core.specs.Between.{after_events, IsShortBetween}
+use Rattle.cdcl_defs.specs.State.{State}
+use Rattle.cdcl_defs.specs.Open.{Opens}
+use Rattle.cdcl_defs.specs.Run.{next, is_going}
+use Rattle.cdcl_defs.specs.Sound.{IsSound}
+use Rattle.cdcl_defs.proofs.published.Kept.{sound_next}
+use Rattle.cdcl_defs.proofs.published.Cuts.{quiet_short}
+use Rattle.cdcl_core.specs.own.Between.{after_events, IsShortBetween}
 
 one_sound : (f : Cnf) (choose : Known → Option ℕ) (s : State) (g : Bool) → is_going s.standing ≡ g → Opens f.variables choose → IsSound f s → IsSound f (if g then next choose s else s)
 one_sound f choose s true e c o = sound_next f choose s c o e

@@ -6,17 +6,17 @@ use Rattle.std.proofs.lemmas.List.{take-take, take-append-le, map-append, length
 use Rattle.std.proofs.Math.Seq.{take-suc}
 use Rattle.clause_base.specs.Told.{told_value, told_from, told_values}
 use Rattle.clause_base.specs.Literal.{opposite}
-use Rattle.cdcl_rules.specs.declared.trail.Assigned.{Assigned}
-use Rattle.cdcl_rules.specs.declared.event.Event.{Event}
-use Rattle.cdcl_rules.specs.declared.event.Event.TheVariants.{Conflict, Force, Decide, Finish}
-use Rattle.cdcl_rules.specs.State.{State, is_on, value_of, values_from, values_of}
-use Rattle.cdcl_rules.specs.Learn.{backtracked, backjump_level, learned}
-use Rattle.cdcl_rules.specs.Run.{apply, trail_after, is_restart, is_conflict}
-use Rattle.cdcl_rules.specs.Trail.{IsTrail}
-use Rattle.cdcl_rules.proofs.Trails.{trail_apart, is_on-reverse, backtracked_is}
-use Rattle.cdcl_core.specs.Search.{SearchView}
-use Rattle.cdcl_trail.specs.Assignment.{literals}
-use Rattle.cdcl_core.specs.Told.{IsToldUpTo}
+use Rattle.cdcl_defs.specs.declared.trail.Assigned.{Assigned}
+use Rattle.cdcl_defs.specs.declared.event.Event.{Event}
+use Rattle.cdcl_defs.specs.declared.event.Event.TheVariants.{Conflict, Force, Decide, Finish}
+use Rattle.cdcl_defs.specs.State.{State, is_on, value_of, values_from, values_of}
+use Rattle.cdcl_defs.specs.Learn.{backtracked, backjump_level, learned}
+use Rattle.cdcl_defs.specs.Run.{apply, trail_after, is_restart, is_conflict}
+use Rattle.cdcl_defs.specs.Trail.{IsTrail}
+use Rattle.cdcl_defs.proofs.published.Trails.{trail_apart, is_on-reverse, backtracked_is}
+use Rattle.cdcl_core.specs.own.Search.{SearchView}
+use Rattle.cdcl_tables.specs.Assignment.{literals}
+use Rattle.cdcl_core.specs.own.Told.{IsToldUpTo}
 
 -- no literal of a variable is on a trail together with its opposite
 abbrev IsApart : List Assigned → ℕ → Type 0

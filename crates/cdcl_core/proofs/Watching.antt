@@ -5,25 +5,25 @@ use Rattle.clause_base.specs.Literal.{opposite}
 use Rattle.clause_base.specs.Clause.{has_literal, IsRising}
 use Rattle.clause_base.specs.Derivation.{clauses_of}
 use Rattle.clause_base.specs.declared.log.Entry.TheVariants.{Learn, Drop}
-use Rattle.cdcl_rules.specs.declared.trail.Assigned.{Assigned}
-use Rattle.cdcl_rules.specs.declared.event.Event.{Event}
-use Rattle.cdcl_rules.specs.State.{clause_at, is_kept, is_on}
-use Rattle.cdcl_rules.specs.Pending.{open_ones, is_pending_in, least_from}
-use Rattle.cdcl_rules.specs.Event.{asked}
-use Rattle.cdcl_rules.specs.declared.standing.Standing.{Standing}
-use Rattle.cdcl_rules.specs.Run.{is_going}
-use Rattle.cdcl_rules.specs.Reduce.{has_forced, is_candidate, candidates, first_half, kept_without}
-use Rattle.cdcl_rules.proofs.Tests.{and_split}
-use Rattle.cdcl_rules.proofs.Orders.{filter_rising, take_rising, range_rising}
-use Rattle.cdcl_trail.specs.Assignment.{literals}
-use Rattle.cdcl_trail.specs.Mirrored.{TrailView}
-use Rattle.cdcl_trail.proofs.Assignments.{has_is}
-use Rattle.conflict_walk.specs.Clauses.{ClausesView, all_clauses}
-use Rattle.conflict_walk.specs.Analysis.{AnalysisView}
-use Rattle.conflict_walk.proofs.Placed.{learned_learn, learned_drops}
+use Rattle.cdcl_defs.specs.declared.trail.Assigned.{Assigned}
+use Rattle.cdcl_defs.specs.declared.event.Event.{Event}
+use Rattle.cdcl_defs.specs.State.{clause_at, is_kept, is_on}
+use Rattle.cdcl_defs.specs.Pending.{open_ones, is_pending_in, least_from}
+use Rattle.cdcl_defs.specs.Event.{asked}
+use Rattle.cdcl_defs.specs.declared.standing.Standing.{Standing}
+use Rattle.cdcl_defs.specs.Run.{is_going}
+use Rattle.cdcl_defs.specs.Reduce.{has_forced, is_candidate, candidates, first_half, kept_without}
+use Rattle.cdcl_defs.proofs.published.Tests.{and_split}
+use Rattle.cdcl_defs.proofs.published.Orders.{filter_rising, take_rising, range_rising}
+use Rattle.cdcl_tables.specs.Assignment.{literals}
+use Rattle.cdcl_tables.specs.Mirrored.{TrailView}
+use Rattle.cdcl_tables.proofs.published.Assignments.{has_is}
+use Rattle.conflict_analysis.specs.Clauses.{ClausesView, all_clauses}
+use Rattle.conflict_analysis.specs.Analysis.{AnalysisView}
+use Rattle.conflict_analysis.proofs.published.Placed.{learned_learn, learned_drops}
 use Rattle.propagation.specs.Front.{asked_at, first_asked}
 use Rattle.propagation.specs.Pending.{PropagatorView}
-use Rattle.cdcl_core.specs.Search.{SearchView, IsKept, watched, AreKept, asked_first, state_of}
+use Rattle.cdcl_core.specs.own.Search.{SearchView, IsKept, watched, AreKept, asked_first, state_of}
 
 -- what is told of literals by two tests that agree is the same
 open_same : (on on' : ℕ → Bool) → ((l : ℕ) → on l ≡ on' l) → (c : List ℕ) → open_ones on c ≡ open_ones on' c

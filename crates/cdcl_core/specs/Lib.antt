@@ -1,3 +1,1 @@
-pub mod Search
-pub mod Between
-pub mod Told
+pub mod own

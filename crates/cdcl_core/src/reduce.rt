@@ -1,15 +1,15 @@
 //! The drops of a restart: of the learned clauses that are kept, long, and forced no entry of the trail, the first half goes.
 ghost use Rattle.std.specs.Prelude.{◌≡◌, ◌<◌, ◌++◌, ◌&&◌, ℕ, not, nat_lt, map, length, slice_index_or, false, IfOk, OnOk, OnErr};
 ghost use Rattle.clause_base.specs.declared.log.Entry.TheVariants.{Drop};
-ghost use Rattle.cdcl_rules.specs.State.{clause_at, is_kept};
-ghost use Rattle.cdcl_rules.specs.Reduce.{has_forced, candidates, first_half, kept_without};
-ghost use Rattle.conflict_walk.specs.Clauses.{all_clauses};
-ghost use Rattle.cdcl_core.specs.Search.{AreKept, watched};
+ghost use Rattle.cdcl_defs.specs.State.{clause_at, is_kept};
+ghost use Rattle.cdcl_defs.specs.Reduce.{has_forced, candidates, first_half, kept_without};
+ghost use Rattle.conflict_analysis.specs.Clauses.{all_clauses};
+ghost use Rattle.cdcl_core.specs.own.Search.{AreKept, watched};
 
-use cdcl_rules::trail::Assigned;
-use cdcl_trail::trail::Trail;
-use clause_base::memory::Memory;
-use conflict_walk::clauses::Clauses;
+use cdcl_defs::trail::Assigned;
+use cdcl_tables::trail::Trail;
+use conflict_analysis::clauses::Clauses;
+use containers::memory::Memory;
 use propagation::propagator::Propagator;
 use std::alloc::Global;
 

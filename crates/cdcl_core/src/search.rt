@@ -2,31 +2,31 @@
 ghost use Rattle.std.specs.Prelude.{◌≡◌, ◌<◌, ◌≤◌, ◌/◌, [], ◌++◌, ◌∷◌, true, false, None, All, length, replicate, IfOk, OnOk, OnErr};
 ghost use Rattle.clause_base.specs.Clause.{IsClause};
 ghost use Rattle.clause_base.specs.Derivation.{clauses_of};
-ghost use Rattle.cdcl_rules.specs.State.{values_of, value_of};
-ghost use Rattle.cdcl_rules.specs.Trail.{AllFalse};
-ghost use Rattle.cdcl_rules.specs.Learn.{learned};
-ghost use Rattle.cdcl_rules.specs.Run.{start_of, apply, with_learned, after_conflict, is_restart, is_going};
-ghost use Rattle.cdcl_rules.specs.Sound.{IsSound};
-ghost use Rattle.cdcl_core.specs.Search.{SearchView, IsNextEvent, MayApply, GoesOn, asked_first, level_after};
+ghost use Rattle.cdcl_defs.specs.State.{values_of, value_of};
+ghost use Rattle.cdcl_defs.specs.Trail.{AllFalse};
+ghost use Rattle.cdcl_defs.specs.Learn.{learned};
+ghost use Rattle.cdcl_defs.specs.Run.{start_of, apply, with_learned, after_conflict, is_restart, is_going};
+ghost use Rattle.cdcl_defs.specs.Sound.{IsSound};
+ghost use Rattle.cdcl_core.specs.own.Search.{SearchView, IsNextEvent, MayApply, GoesOn, asked_first, level_after};
 
 use crate::reduce::reduce;
-use cdcl_rules::event::Event;
-use cdcl_rules::standing::Standing;
-use cdcl_rules::trail::Assigned;
+use cdcl_defs::event::Event;
+use cdcl_defs::standing::Standing;
+use cdcl_defs::trail::Assigned;
 use clause_base::formula::Formula;
 use clause_base::literal::Lit;
-use clause_base::memory::Memory;
 use clause_base::values::Values;
-use clause_log::log::Log;
-use conflict_walk::backjump::backjump_level;
-use conflict_walk::clauses::Clauses;
-use conflict_walk::learn::{Analysis, LearnedClause};
+use conflict_analysis::backjump::backjump_level;
+use conflict_analysis::clauses::Clauses;
+use conflict_analysis::learn::{Analysis, LearnedClause};
 use containers::let_go;
+use containers::memory::Memory;
+use proof_log::log::Log;
 use propagation::propagator::Propagator;
 use std::alloc::Global;
 use std::marker::Model;
 
-/// At each so manyth conflict the search restarts: it backtracks to level 0, and drops learned clauses.
+/// After each so many conflicts the search restarts: it backtracks to level 0, and drops learned clauses.
 const RESTART: u64 = 64;
 
 /// A search over a formula: its clauses with the log, what propagates, which owns the trail, the room in which conflicts are worked
@@ -41,7 +41,7 @@ pub struct Search {
 }
 
 impl Model for Search {
-    ghost use Rattle.cdcl_core.specs.Search.{SearchView, IsKept, state_of};
+    ghost use Rattle.cdcl_core.specs.own.Search.{SearchView, IsKept, state_of};
 
     ghost Value = { SearchView };
 
@@ -50,7 +50,7 @@ impl Model for Search {
     ghost invariant = { λ s. IsKept s.clauses s.propagator s.analysis s.standing s.spoilt };
 }
 
-/// Letting one go is one call, in which its parts go: whoever holds one proves one step.
+/// All parts are let go in one call, so that a proof has one step for it and not one for each part.
 impl Drop for Search {
     fn drop(self) {
         let_go!(self: Search { alloc, clauses, propagator, analysis, standing, spoilt });

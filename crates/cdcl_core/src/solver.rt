@@ -1,28 +1,28 @@
 ghost use Rattle.std.specs.Prelude.{◌≡◌, ◌≤◌, ◌+◌, ◌*◌, ◌<◌, ◌++◌, true, false, None, ◌&&◌, nat_le, length, IfOk, OnOk, OnErr};
 ghost use Rattle.clause_base.specs.Formula.{Satisfies};
 ghost use Rattle.clause_base.specs.Derivation.{clauses_of, IsDerivation, EndsEmpty};
-ghost use Rattle.cdcl_rules.specs.State.{value_of, values_of};
-ghost use Rattle.cdcl_rules.specs.Event.{event_of};
-ghost use Rattle.cdcl_rules.specs.Open.{Opens};
-ghost use Rattle.cdcl_rules.specs.Run.{start_of, apply, after, is_going, is_conflict, IsAfter};
-ghost use Rattle.cdcl_rules.specs.Sound.{IsSound, IsSolution, made_true};
-ghost use Rattle.cdcl_rules.specs.Laws.{AddsUp, SettledStays, ComesToRestAlways, Grants};
-ghost use Rattle.cdcl_core.specs.Search.{SolverView, MayApply, GoesOn, asked_first};
-ghost use Rattle.cdcl_core.specs.Between.{IsShortBetween};
-ghost use Rattle.cdcl_trail.specs.Assignment.{literals};
-ghost use Rattle.cdcl_core.specs.Told.{IsToldUpTo};
+ghost use Rattle.cdcl_defs.specs.State.{value_of, values_of};
+ghost use Rattle.cdcl_defs.specs.Event.{event_of};
+ghost use Rattle.cdcl_defs.specs.Open.{Opens};
+ghost use Rattle.cdcl_defs.specs.Run.{start_of, apply, after, is_going, is_conflict, IsAfter};
+ghost use Rattle.cdcl_defs.specs.Sound.{IsSound, IsSolution, made_true};
+ghost use Rattle.cdcl_defs.specs.Laws.{AddsUp, SettledStays, ComesToRestAlways, Grants};
+ghost use Rattle.cdcl_core.specs.own.Search.{SolverView, MayApply, GoesOn, asked_first};
+ghost use Rattle.cdcl_core.specs.own.Between.{IsShortBetween};
+ghost use Rattle.cdcl_tables.specs.Assignment.{literals};
+ghost use Rattle.cdcl_core.specs.own.Told.{IsToldUpTo};
 
 use crate::search::Search;
-use cdcl_rules::event::Event;
-use cdcl_rules::sound_runs::runs_are_sound;
-use cdcl_rules::standing::Standing;
-use cdcl_rules::trail::Assigned;
+use cdcl_defs::event::Event;
+use cdcl_defs::sound_runs::runs_are_sound;
+use cdcl_defs::standing::Standing;
+use cdcl_defs::trail::Assigned;
 use clause_base::chooser::Chooser;
 use clause_base::formula::Formula;
 use clause_base::literal::Lit;
-use clause_base::memory::Memory;
-use clause_log::log::Log;
 use containers::let_go;
+use containers::memory::Memory;
+use proof_log::log::Log;
 use std::alloc::Global;
 use std::marker::Model;
 
@@ -37,8 +37,8 @@ pub struct Solver<C: Chooser> {
 
 impl<C: Chooser> Model for Solver<C> {
     ghost use Rattle.std.specs.Prelude.{◌≡◌, false};
-    ghost use Rattle.cdcl_core.specs.Search.{SolverView};
-    ghost use Rattle.cdcl_core.specs.Told.{IsToldUpTo};
+    ghost use Rattle.cdcl_core.specs.own.Search.{SolverView};
+    ghost use Rattle.cdcl_core.specs.own.Told.{IsToldUpTo};
 
     ghost Value = { SolverView C };
 
@@ -64,13 +64,14 @@ fn tell<C: Chooser>(chooser: &C, told: &mut C::Told, kept: usize, search: &Searc
     }
 }
 
-/// Letting one go is one call, in which its parts go: whoever holds one proves one step.
+/// All parts are let go in one call, so that a proof has one step for it and not one for each part.
 impl<C: Chooser + Drop> Drop for Solver<C> {
     fn drop(self) {
         let_go!(self: Solver { search, chooser, told, kept });
     }
 }
 
+// The chooser's type has to be one that is dropped, since formula and chooser are let go where memory is wanting.
 impl<C: Chooser + Drop> Solver<C> {
     /// The solver with a search before any event, of which its chooser is told nothing yet.
     fn over(alloc: Global, search: Search, chooser: C) -> Result<Solver<C>, Memory>

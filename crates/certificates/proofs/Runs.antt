@@ -5,10 +5,10 @@ use Rattle.clause_base.specs.Formula.{Cnf, IsModel}
 use Rattle.clause_base.specs.Derivation.{IsRefutation}
 use Rattle.clause_base.specs.declared.log.Entry.{Entry}
 use Rattle.containers.specs.declared.memory.Memory.{Memory}
-use Rattle.cdcl_rules.specs.State.{State}
-use Rattle.cdcl_rules.specs.declared.standing.Standing.TheVariants.{Going, Found, Refuted}
+use Rattle.cdcl_defs.specs.State.{State}
+use Rattle.cdcl_defs.specs.declared.standing.Standing.TheVariants.{Going, Found, Refuted}
 use Rattle.horizon_run.specs.Run.{RunView, choice_in, truths_of, IsMoved, IsReached}
-use Rattle.proof_text.specs.Text.{proof_text}
+use Rattle.proof_log.specs.Text.{proof_text}
 use Rattle.certificates.specs.Certificate.{IsSpelled, IsCertificate}
 use Rattle.certificates.specs.Proved.{most_bytes, certificate_of}
 use Rattle.certificates.specs.declared.prove.Proved.{Proved}

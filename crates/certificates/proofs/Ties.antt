@@ -8,7 +8,7 @@ use Rattle.gt_core.specs.Clauses.{KnownClauses}
 use Rattle.gt_core.specs.Published.{IsPublished, order_of}
 use Rattle.gt_core.specs.Step.{IsStepPlan}
 use Rattle.horizon_run.specs.Run.{reached, choice_of, Stays}
-use Rattle.horizon_formula.specs.Variables.{layout_of, chain_places}
+use Rattle.formula_defs.specs.Variables.{layout_of, chain_places}
 use Rattle.step_laws.specs.Form.{OrderedTask, AreSets}
 use Rattle.step_encoding.specs.Limits.{planner_literals}
 use Rattle.step_encoding.specs.Numbers.{literals_of}

@@ -3,7 +3,7 @@ use Rattle.std.specs.Prelude.{◌≡◌, ◌≤◌, ℕ, List}
 use Rattle.clause_base.specs.Formula.{Cnf}
 use Rattle.clause_base.specs.Derivation.{IsRefutation}
 use Rattle.clause_base.specs.declared.log.Entry.{Entry}
-use Rattle.proof_text.specs.Text.{AreWritten, proof_text}
+use Rattle.proof_log.specs.Text.{AreWritten, proof_text}
 
 -- a horizon and a log, spelled by a text
 pub record IsSpelled (text : List ℕ) (horizon : ℕ) (log : List Entry) : Type 0 where

@@ -6,7 +6,7 @@ use Rattle.clause_base.specs.declared.log.Entry.{Entry}
 use Rattle.gt_core.specs.Task.{Task}
 use Rattle.gt_core.specs.Published.{order_of}
 use Rattle.gt_core.specs.Step.{IsStepPlan}
-use Rattle.horizon_formula.specs.Variables.{chain_places}
+use Rattle.formula_defs.specs.Variables.{chain_places}
 use Rattle.step_laws.specs.Form.{AreSets}
 use Rattle.step_encoding.specs.Limits.{planner_literals}
 use Rattle.step_encoding.specs.Numbers.{literals_of}

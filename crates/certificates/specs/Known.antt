@@ -2,7 +2,7 @@
 use Rattle.std.specs.Prelude.{◌≡◌, ◌<◌, ℕ, List, Option}
 use Rattle.clause_base.specs.Choice.{Known}
 use Rattle.gt_core.specs.Task.{Task}
-use Rattle.horizon_formula.specs.Variables.{layout_of, chain_places}
+use Rattle.formula_defs.specs.Variables.{layout_of, chain_places}
 use Rattle.step_laws.specs.Form.{OrderedTask}
 use Rattle.step_encoding.specs.Limits.{planner_literals}
 use Rattle.step_encoding.specs.Numbers.{literals_of}

@@ -2,15 +2,15 @@
 use Rattle.std.specs.Prelude.{◌≡◌, ◌≤◌, ℕ, Bool, List, length, nat_le, if◌then◌else◌}
 use Rattle.clause_base.specs.Formula.{IsModel}
 use Rattle.clause_base.specs.declared.log.Entry.{Entry}
-use Rattle.cdcl_rules.specs.State.{State}
-use Rattle.cdcl_rules.specs.declared.standing.Standing.{Standing}
-use Rattle.cdcl_rules.specs.declared.standing.Standing.TheVariants.{Going, Found, Refuted}
+use Rattle.cdcl_defs.specs.State.{State}
+use Rattle.cdcl_defs.specs.declared.standing.Standing.{Standing}
+use Rattle.cdcl_defs.specs.declared.standing.Standing.TheVariants.{Going, Found, Refuted}
 use Rattle.gt_core.specs.Task.{Task}
 use Rattle.horizon_run.specs.Run.{reached, Stays}
-use Rattle.horizon_formula.specs.Variables.{chain_places}
+use Rattle.formula_defs.specs.Variables.{chain_places}
 use Rattle.step_encoding.specs.Limits.{planner_literals}
 use Rattle.step_encoding.specs.Numbers.{literals_of}
-use Rattle.proof_text.specs.Text.{proof_text}
+use Rattle.proof_log.specs.Text.{proof_text}
 use Rattle.certificates.specs.Known.{IsOrdered, form_of, choice_at, formula_at}
 use Rattle.certificates.specs.Certificate.{IsCertificate}
 use Rattle.certificates.specs.declared.prove.Proved.{Proved}

@@ -11,10 +11,10 @@ pub enum ProofError {
     Memory,
 }
 
-impl From<gt_core::memory::Memory> for ProofError {
+impl From<containers::memory::Memory> for ProofError {
     ghost from_gives = { λ _ e. e ≡ errors.Memory };
 
-    fn from(_: gt_core::memory::Memory) -> Self {
+    fn from(_: containers::memory::Memory) -> Self {
         ProofError::Memory
     }
 }

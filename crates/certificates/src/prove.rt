@@ -9,12 +9,12 @@ ghost use Rattle.certificates.specs.Proved.{certificate_of, proved_of, Proves};
 
 use crate::error::ProofError;
 use action_order::publish::publish;
-use cdcl_rules::standing::Standing;
-use clause_base::memory::Memory;
-use clause_log::log::Log;
+use cdcl_defs::standing::Standing;
+use containers::memory::Memory;
 use gt_core::task::Task;
 use horizon_run::HorizonRun;
-use proof_text::{Text, proof_length, write_proof, written};
+use proof_log::log::Log;
+use proof_log::{Text, proof_length, write_proof, written};
 use std::alloc::Global;
 use std::thread::Threads;
 use step_encoding::exists::ExistsForm;

@@ -7,7 +7,7 @@ ghost use Rattle.certificates.specs.Judged.{IsJudged, Judges};
 use crate::error::ProofError;
 use action_order::publish::publish;
 use gt_core::task::Task;
-use proof_text::Proof;
+use proof_log::Proof;
 use rup_check::check::{CheckError, check};
 use std::alloc::Global;
 use std::thread::Threads;

@@ -7,10 +7,10 @@ use Rattle.std.proofs.lemmas.List.Elements.{All-append, All-nil, All-cons}
 use Rattle.clause_base.specs.Clause.{HasVariablesBelow}
 use Rattle.clause_base.specs.Formula.{Cnf}
 use Rattle.clause_base.specs.Repeats.{Repeats, repeated, variables_of}
-use Rattle.clause_base.specs.Joined.{joined, IsJoined}
+use Rattle.clause_base.specs.own.Joined.{joined, IsJoined}
 use Rattle.containers.specs.declared.memory.Memory.{Memory}
 use Rattle.clause_base.proofs.PieceLemmas.{holds_at}
-use Rattle.clause_base.proofs.RepeatLemmas.{get_right}
+use Rattle.clause_base.proofs.published.RepeatLemmas.{get_right}
 
 -- one more clause at the end
 pub joined_more : (told : List (List ℕ)) (part : Repeats) (after : List (List ℕ)) (clause : List ℕ) → joined told part (after ++ clause ∷ []) ≡ joined told part after ++ clause ∷ []

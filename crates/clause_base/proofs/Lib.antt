@@ -1,15 +1,6 @@
-pub mod ClauseLemmas
-pub mod Rising
-pub mod ViewLemmas
-pub mod Neighbours
-pub mod Refutation
 pub mod PieceLemmas
 pub mod ValueLemmas
-pub mod Moved
-pub mod ToldLemmas
-pub mod RepeatLemmas
 pub mod JoinedLemmas
 pub mod WorkedRows
-pub mod PairCounts
 pub mod PairFills
-pub mod PairTables
+pub mod published

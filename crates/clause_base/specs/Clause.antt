@@ -1,5 +1,6 @@
 use Rattle.std.specs.Prelude.{◌≡◌, ℕ, ◌/◌, ◌<◌, ◌==◌, List, [], ◌∷◌, Bool, false, All, fold, nat_lt, if◌then◌else◌, Option, Some, None}
 use Rattle.std.specs.List.{list_any, list_all}
+use Rattle.containers.specs.Rising.{put}
 use Rattle.clause_base.specs.Literal.{opposite, literal_value}
 
 -- a literal is among these
@@ -20,11 +21,6 @@ has_opposite_pair lits = list_any (λ l. has_literal lits (opposite l)) lits
 pub record IsClause (lits : List ℕ) : Type 0 where
   pub rising : IsRising lits
   pub no_pair : has_opposite_pair lits ≡ false
-
--- a literal put into a rising list, once
-abbrev pub put : List ℕ → ℕ → List ℕ
-put [] l = l ∷ []
-put (m ∷ lits) l = if nat_lt m l then m ∷ put lits l else if m == l then m ∷ lits else l ∷ m ∷ lits
 
 -- the clause of these literals, or none where there is an opposite pair
 abbrev pub clause_of : List ℕ → Option (List ℕ)

@@ -2,14 +2,11 @@ pub mod Literal
 pub mod Clause
 pub mod Formula
 pub mod Repeats
-pub mod Sizes
 pub mod View
-pub mod Joined
 pub mod Pairs
-pub mod PairRows
-pub mod Shared
 pub mod Derivation
 pub mod Choice
 pub mod ValueTruths
 pub mod ChoiceLaw
 pub mod Told
+pub mod own

@@ -10,6 +10,7 @@ no_pair = record { other = 0; number = 0 }
 abbrev pub pairs_of : List (List Pair) → ℕ → List Pair
 pairs_of pairs code = slice_index_or pairs code []
 
+-- the pair at a place of a list
 abbrev pub pair_in : List Pair → ℕ → Pair
 pair_in list place = slice_index_or list place no_pair
 

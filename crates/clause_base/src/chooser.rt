@@ -4,8 +4,8 @@ ghost use Rattle.clause_base.specs.ChoiceLaw.{plain_choice-open};
 ghost use Rattle.clause_base.specs.Told.{told_values};
 
 use crate::literal::Lit;
-use crate::memory::Memory;
 use crate::values::Values;
+use containers::memory::Memory;
 use std::alloc::Global;
 
 /// What picks the literal of a solver's decision. What `choice` and `fits` are is open: a type that is a chooser says it in

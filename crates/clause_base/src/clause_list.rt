@@ -4,7 +4,7 @@ ghost use Rattle.clause_base.specs.Clause.{IsClause, clause_of};
 
 use crate::clause::{Clause, has_opposite_neighbours, sort_into};
 use crate::literal::Lit;
-use crate::memory::Memory;
+use containers::memory::Memory;
 use containers::{FlatLists, let_go};
 use std::alloc::Global;
 use std::marker::Model;
@@ -27,7 +27,7 @@ impl Model for ClauseList {
     ghost invariant = { λ c. All IsClause c.lists };
 }
 
-/// Letting one go is one call, in which its parts go: whoever holds one proves one step.
+/// All parts are let go in one call, so that a proof has one step for it and not one for each part.
 impl Drop for ClauseList {
     fn drop(self) {
         let_go!(self: ClauseList { lists, sorted });

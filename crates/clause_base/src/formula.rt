@@ -6,10 +6,10 @@ ghost use Rattle.clause_base.specs.Repeats.{IsRepeatable, repeated as repeated_c
 use crate::clause::Clause;
 use crate::clause_list::ClauseList;
 use crate::literal::Lit;
-use crate::memory::Memory;
 use crate::repeated::Repeated;
 use crate::view::View;
 use containers::let_go;
+use containers::memory::Memory;
 use std::alloc::Global;
 use std::marker::Model;
 
@@ -27,7 +27,7 @@ pub struct Formula {
     after: ClauseList,
 }
 
-/// Letting one go is one call, in which its parts go: whoever holds one proves one step.
+/// All parts are let go in one call, so that a proof has one step for it and not one for each part.
 impl Drop for Formula {
     fn drop(self) {
         let_go!(self: Formula { name, variables, told, repeated, after });
@@ -47,7 +47,7 @@ pub struct Parts<'a> {
 
 impl Model for Formula {
     ghost use Rattle.clause_base.specs.Formula.{Cnf};
-    ghost use Rattle.clause_base.specs.Joined.{joined, IsJoined};
+    ghost use Rattle.clause_base.specs.own.Joined.{joined, IsJoined};
 
     ghost Value = { Cnf };
 

@@ -2,7 +2,7 @@ ghost use Rattle.std.specs.Prelude.{◌≡◌, ℕ, ◌+◌, ◌*◌, ◌/◌, �
 ghost use Rattle.clause_base.specs.Literal.{literal_of, opposite};
 
 use containers::ListOf;
-use literal_codes::opposite;
+use containers::codes::opposite;
 use std::marker::Model;
 
 /// A literal by its code: `2v` is variable v, and `2v + 1` its negation. Variables are numbered from 0.

@@ -3,10 +3,10 @@ ghost use Rattle.std.specs.Prelude.{◌≡◌, ℕ, ◌+◌, ◌≤◌, [], leng
 ghost use Rattle.clause_base.specs.Pairs.{pairs_of, pairs_from};
 
 use crate::clause_list::ClauseList;
-use crate::memory::Memory;
 use crate::pair::Pair;
 use crate::pair_build::{counted, ends_of, fill, has_pairs, variables_below};
 use containers::let_go;
+use containers::memory::Memory;
 use std::alloc::Global;
 use std::marker::Model;
 
@@ -20,7 +20,7 @@ pub struct PairTable {
 impl Model for PairTable {
     ghost use Rattle.std.specs.Prelude.{List, length};
     ghost use Rattle.clause_base.specs.declared.pair.Pair.{Pair};
-    ghost use Rattle.clause_base.specs.PairRows.{rows_of, AreOffsets};
+    ghost use Rattle.clause_base.specs.own.PairRows.{rows_of, AreOffsets};
 
     ghost Value = { List (List Pair) };
 
@@ -29,7 +29,7 @@ impl Model for PairTable {
     ghost invariant = { λ t. AreOffsets t.offsets.items (length t.items.items) };
 }
 
-/// Letting one go is one call, in which its parts go: whoever holds one proves one step.
+/// All parts are let go in one call, so that a proof has one step for it and not one for each part.
 impl Drop for PairTable {
     fn drop(self) {
         let_go!(self: PairTable { offsets, items });

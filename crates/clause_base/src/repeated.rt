@@ -3,11 +3,11 @@ ghost use Rattle.clause_base.specs.Clause.{IsClause, HasVariablesBelow};
 ghost use Rattle.clause_base.specs.Repeats.{IsRepeatable, all_steps, all_times, facts_at, repeated, variables_of};
 
 use crate::clause_list::ClauseList;
-use crate::memory::Memory;
 use crate::shared_list::SharedList;
 use crate::sizes::{Sizes, sizes_of};
 use crate::view::View;
 use containers::let_go;
+use containers::memory::Memory;
 use std::alloc::Global;
 use std::marker::Model;
 
@@ -25,7 +25,7 @@ pub struct Repeated {
 
 impl Model for Repeated {
     ghost use Rattle.clause_base.specs.Repeats.{Repeats};
-    ghost use Rattle.clause_base.specs.Sizes.{IsSized};
+    ghost use Rattle.clause_base.specs.own.Sizes.{IsSized};
 
     ghost Value = { Repeats };
 
@@ -34,7 +34,7 @@ impl Model for Repeated {
     ghost invariant = { λ r. IsSized (record { horizon = r.horizon; width = r.width; facts = r.facts; step = r.step; time = r.time }) r.sizes.first r.sizes.per_step r.sizes.per_time r.sizes.steps r.sizes.all };
 }
 
-/// Letting one go is one call, in which its parts go: whoever holds one proves one step.
+/// All parts are let go in one call, so that a proof has one step for it and not one for each part.
 impl Drop for Repeated {
     fn drop(self) {
         let_go!(self: Repeated { horizon, width, facts, sizes, step, time });

@@ -6,8 +6,8 @@ ghost use Rattle.clause_base.specs.Pairs.{pairs_of, pairs_from};
 
 use crate::clause_list::ClauseList;
 use crate::literal::Lit;
-use crate::memory::Memory;
 use crate::pair_table::PairTable;
+use containers::memory::Memory;
 use std::alloc::Global;
 use std::marker::Model;
 use std::sync::Arc;
@@ -30,7 +30,7 @@ pub struct SharedList {
 
 impl Model for SharedList {
     ghost use Rattle.std.specs.Prelude.{List, ℕ};
-    ghost use Rattle.clause_base.specs.Shared.{clauses_held, HasTable};
+    ghost use Rattle.clause_base.specs.own.Shared.{clauses_held, HasTable};
 
     ghost Value = { List (List ℕ) };
 
@@ -39,7 +39,7 @@ impl Model for SharedList {
     ghost invariant = { λ s. HasTable s.held };
 }
 
-/// Letting one go is one call, in which its parts go: whoever holds one proves one step.
+/// All parts are let go in one call, so that a proof has one step for it and not one for each part.
 impl Drop for SharedList {
     fn drop(self) {
         let SharedList { held: _ } = self;

@@ -3,8 +3,8 @@ ghost use Rattle.clause_base.specs.Choice.{least_open};
 ghost use Rattle.clause_base.specs.ValueTruths.{AreGivenBelow, says, value_at};
 
 use crate::literal::Lit;
-use crate::memory::Memory;
 use containers::let_go;
+use containers::memory::Memory;
 use std::alloc::Global;
 use std::marker::Model;
 
@@ -27,7 +27,7 @@ impl Model for Values {
     ghost invariant = { λ v. AreTruths v.variables v.low v.on.items };
 }
 
-/// Letting one go is one call, in which its parts go: whoever holds one proves one step.
+/// All parts are let go in one call, so that a proof has one step for it and not one for each part.
 impl Drop for Values {
     fn drop(self) {
         let_go!(self: Values { variables, on, low });

@@ -3,7 +3,7 @@ ghost use Rattle.clause_base.specs.Clause.{IsRising};
 ghost use Rattle.clause_base.specs.View.{shifted, IsMoved, StaysCode};
 
 use crate::literal::Lit;
-use crate::memory::Memory;
+use containers::memory::Memory;
 use std::marker::Model;
 
 /// The literals of a clause as they stand, and how each is moved as it is read.
@@ -18,6 +18,7 @@ pub struct Moving<'a> {
 
 /// The literals of a clause, read where they stand: each is moved as it is read, so that a clause that is seen many times
 /// stands once.
+/// It is no `Copy`, since a struct that borrows and has a model can be none.
 #[derive(Drop)]
 pub struct View<'a> {
     lits: &'a [Lit],

@@ -3,7 +3,7 @@ use Rattle.std.proofs.Common.{arith, ◌≡◌, ℕ, zero, suc, ◌+◌, ◌-◌
 use Rattle.std.specs.List.{slice_get, slice_range}
 use Rattle.std.proofs.lemmas.List.{drop-append-le, take-append-le, length-drop, take_all}
 use Rattle.std.proofs.Math.Seq.{drop-append_seam}
-use Rattle.containers.specs.Pieces.{pieces, start_of, AreEnds}
+use Rattle.containers.specs.own.Pieces.{pieces, start_of, AreEnds}
 
 pub length-pieces : {A : Type 0} (from : ℕ) (items : List A) (ends : List ℕ) → length (pieces from items ends) ≡ length ends
 length-pieces from items [] = refl

@@ -1,6 +1,6 @@
 //! Lists in two blocks of memory.
 ghost use Rattle.std.specs.Prelude.{◌≡◌, ◌∷◌, [], ◌++◌, ◌<◌, ◌≤◌, Some, length, slice_get, slice_range, OnOk, OnErr};
-ghost use Rattle.containers.specs.Pieces.{pieces, start_of, AreEnds};
+ghost use Rattle.containers.specs.own.Pieces.{pieces, start_of, AreEnds};
 
 use std::alloc::{AllocError, Global};
 use std::marker::Model;
@@ -14,7 +14,7 @@ pub struct FlatLists<T> {
 
 impl<T> Model for FlatLists<T> {
     ghost use Rattle.std.specs.Prelude.{List, length};
-    ghost use Rattle.containers.specs.Pieces.{pieces, AreEnds};
+    ghost use Rattle.containers.specs.own.Pieces.{pieces, AreEnds};
 
     ghost Value = { List (List T) };
 

@@ -2,9 +2,14 @@
 //! lists in two blocks of memory; and lists in memory that their copies share.
 //!
 //! `let_go!` takes a struct apart and lets each part go: what each `drop` that a crate writes by hand does. `equal` has vectors
-//! of items that are made alike.
+//! of items that are made alike. `codes` has literals as codes, and `memory` the want of memory that all crates answer.
+//!
+//! `FlatLists` has lists of items in two blocks of memory: the items, and where each list ends. `SharedListOf` is a list that does not
+//! change, in memory that its copies share. `equal` fills a vector with so many items that one closure makes. Other crates pass `Memory` on
+//! under their own names, so that who stands on one of them names no crate more.
 #![tactic(auto)]
 
+pub mod codes;
 pub mod equal;
 mod flat_lists;
 pub mod memory;

@@ -8,11 +8,11 @@ use Rattle.std.specs.List.{AllByRecursion, IsAllAdjacentAnswer}
 use Rattle.std.proofs.lemmas.List.Sorted.{non_decreasing_from_is_sorted}
 use Rattle.std.specs.List.Sorted.{IsNonDecreasing}
 use Rattle.clause_base.specs.Choice.{Known}
-use Rattle.horizon_formula.specs.Layout.{Layout}
+use Rattle.formula_defs.specs.Layout.{Layout}
 use Rattle.goal_choice.specs.Means.{Supporter, Means}
 use Rattle.goal_choice.specs.Walk.{has_value, least_with, lesser}
-use Rattle.goal_choice.specs.Needs.{supporter_in, supporters_in}
-use Rattle.goal_choice.specs.Search.{lesser_variable, least_variable, AreMarked}
+use Rattle.goal_choice.specs.own.Needs.{supporter_in, supporters_in}
+use Rattle.goal_choice.specs.own.Search.{lesser_variable, least_variable, AreMarked}
 
 -- of two variables the first, where it is not greater
 lesser_is : (v : ℕ) (o : Option ℕ) → ((w : ℕ) → o ≡ Some w → v ≤ w) → lesser_variable v o ≡ v

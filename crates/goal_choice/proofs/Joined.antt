@@ -6,8 +6,8 @@ use Rattle.std.proofs.lemmas.List as lists
 use Rattle.std.proofs.lemmas.Grind.{flat_map-append}
 use Rattle.gt_core.specs.Task.{Action, Effect}
 use Rattle.gt_core.specs.Lawful.{is_conditional}
-use Rattle.goal_choice.specs.Needs.{needs_in}
-use Rattle.goal_choice.specs.Joined.{joined, all_needs}
+use Rattle.goal_choice.specs.own.Needs.{needs_in}
+use Rattle.goal_choice.specs.own.Joined.{joined, all_needs}
 use Rattle.goal_choice.proofs.NeedsLaw.{all_append}
 
 joined_long : (pres : List (List ℕ)) (owners : List ℕ) (conds : List (List ℕ)) → length owners ≡ length conds → length (joined pres owners conds) ≡ length conds

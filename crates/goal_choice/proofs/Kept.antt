@@ -5,15 +5,15 @@ use Rattle.std.proofs.Math.Nat.{mul_comm, div-add-mod, mod-lt}
 use Rattle.std.proofs.lemmas.Bool.{cases_eq, cases_lt}
 use Rattle.std.specs.Prelude.{not}
 use Rattle.std.specs.List.{slice_get, AllByRecursion}
-use Rattle.clause_base.specs.Clause.{put}
+use Rattle.containers.specs.Rising.{put}
 use Rattle.clause_base.specs.Choice.{Known, same_value}
-use Rattle.horizon_formula.specs.Layout.{width, variables, fact_at}
-use Rattle.horizon_formula.proofs.LayoutLaw.{product_le}
+use Rattle.formula_defs.specs.Layout.{width, variables, fact_at}
+use Rattle.formula_defs.proofs.published.LayoutLaw.{product_le}
 use Rattle.goal_choice.specs.Means.{Means, start_of}
 use Rattle.goal_choice.specs.Walk.{support_of, supports, walk}
-use Rattle.goal_choice.specs.Supports.{IsStep}
-use Rattle.goal_choice.specs.Members.{Literals, AreMeans, no_literals}
-use Rattle.goal_choice.specs.Kept.{WalkView, IsWalk, IsPassed, IsSameFrom, set_at, walked}
+use Rattle.goal_choice.specs.own.Supports.{IsStep}
+use Rattle.goal_choice.specs.own.Members.{Literals, AreMeans, no_literals}
+use Rattle.goal_choice.specs.own.Kept.{WalkView, IsWalk, IsPassed, IsSameFrom, set_at, walked}
 use Rattle.goal_choice.proofs.Steps.{step_goes_on, step_chooses, put_rising}
 use Rattle.goal_choice.proofs.Unread.{supports_same, each_literal, passed_elsewhere, passed_false, passed_fact, later_step, no_chain, before_facts, behind_steps, one_fact, made_false}
 

@@ -12,17 +12,17 @@ use Rattle.gt_core.specs.Literal.{range_from}
 use Rattle.gt_core.specs.Task.{Task, Effect, Action, EffectOf, owned, effects_from, effects, precondition}
 use Rattle.gt_core.specs.Lawful.{is_conditional, is_action, is_task, is_literal_set, conditional_in}
 use Rattle.gt_core.specs.Active.{EffectWithin}
-use Rattle.horizon_formula.specs.Layout.{Layout, width}
-use Rattle.gt_core.proofs.Basics.{and_split}
-use Rattle.gt_core.proofs.Within.{lawful, effects_within, precondition_within}
-use Rattle.horizon_formula.specs.Clause.{Is, code}
-use Rattle.horizon_formula.specs.Variables.{Row, rows, rows_from, variable_at, has_condition}
-use Rattle.horizon_formula.proofs.Counts.{conditional_count}
-use Rattle.step_template.specs.Rows.{made, IsIndex}
+use Rattle.formula_defs.specs.Layout.{Layout, width}
+use Rattle.gt_core.proofs.published.Basics.{and_split}
+use Rattle.gt_core.proofs.published.Within.{lawful, effects_within, precondition_within}
+use Rattle.formula_defs.specs.Clause.{Is, code}
+use Rattle.formula_defs.specs.Variables.{Row, rows, rows_from, variable_at, has_condition}
+use Rattle.formula_defs.proofs.published.Counts.{conditional_count}
+use Rattle.step_formula.specs.Rows.{made, IsIndex}
 use Rattle.goal_choice.specs.Means.{Supporter, Means, supporter_of, supporters_of, plain_layout, gathered_of}
-use Rattle.goal_choice.specs.Members.{IsWithin, AreMeans}
+use Rattle.goal_choice.specs.own.Members.{IsWithin, AreMeans}
 use Rattle.goal_choice.proofs.Ranges.{means_are}
-use Rattle.goal_choice.specs.Needs.{needs_in, needs_of, supporter_in, supporters_in}
+use Rattle.goal_choice.specs.own.Needs.{needs_in, needs_of, supporter_in, supporters_in}
 
 pub all_append : {A : Type 0} (P : A → Type 0) (xs ys : List A) → AllByRecursion P xs → AllByRecursion P ys → AllByRecursion P (xs ++ ys)
 all_append P [] ys h k = k

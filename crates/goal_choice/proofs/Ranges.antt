@@ -7,15 +7,15 @@ use Rattle.std.proofs.lemmas.Bool.Decides.{nat_tests}
 use Rattle.clause_base.specs.Clause.{IsRising}
 use Rattle.clause_base.specs.Choice.{Known}
 use Rattle.gt_core.specs.Task.{Task}
-use Rattle.horizon_formula.specs.Layout.{Layout, width, variables}
+use Rattle.formula_defs.specs.Layout.{Layout, width, variables}
 use Rattle.gt_core.specs.Lawful.{are_rising, is_task}
 use Rattle.gt_core.specs.Literal.{range_from}
-use Rattle.gt_core.proofs.Basics.{and_split}
-use Rattle.horizon_formula.proofs.LayoutLaw.{product_le}
-use Rattle.gt_core.proofs.Within.{lawful, literals_within}
+use Rattle.gt_core.proofs.published.Basics.{and_split}
+use Rattle.formula_defs.proofs.published.LayoutLaw.{product_le}
+use Rattle.gt_core.proofs.published.Within.{lawful, literals_within}
 use Rattle.goal_choice.specs.Means.{Supporter, variable_from, start_of}
 use Rattle.goal_choice.specs.Walk.{has_value, lesser, least_with}
-use Rattle.goal_choice.specs.Members.{IsWithin, AreMeans}
+use Rattle.goal_choice.specs.own.Members.{IsWithin, AreMeans}
 
 -- what holds of all supporters holds of the least one
 abbrev Holds : (Supporter → Type 0) → Option Supporter → Type 0

@@ -3,8 +3,8 @@ use Rattle.std.proofs.Common.{arith, ◌≡◌, ◌==◌, ℕ, zero, suc, ◌+�
 use Rattle.std.proofs.lemmas.Bool.{cases_lt, cases_order}
 use Rattle.std.specs.List.{filter, range_with_len, AllByRecursion}
 use Rattle.std.proofs.lemmas.Bool.Decides.{nat_tests}
-use Rattle.clause_base.specs.Clause.{put}
-use Rattle.goal_choice.specs.Members.{Literals, members_from}
+use Rattle.containers.specs.Rising.{put}
+use Rattle.goal_choice.specs.own.Members.{Literals, members_from}
 
 same_above : (p q : ℕ → Bool) (k n : ℕ) → ((j : ℕ) → k ≤ j → q j ≡ p j) → filter q (range_with_len k n) ≡ filter p (range_with_len k n)
 same_above p q k zero h = refl

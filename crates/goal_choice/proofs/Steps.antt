@@ -1,12 +1,13 @@
 -- What wanted literals ask for, one after another, and one step of the walk.
 use Rattle.std.proofs.Common.{arith, ◌≡◌, ◌==◌, ℕ, suc, ◌+◌, ◌-◌, ◌<◌, ◌≤◌, List, [], ◌∷◌, ◌++◌, Option, Some, None, fold, refl, sym, ap, ◌∙◌, append_assoc}
 use Rattle.std.proofs.lemmas.List.Sums.{fold-append}
-use Rattle.clause_base.specs.Clause.{IsRising, put}
-use Rattle.clause_base.proofs.ClauseLemmas.{rising-fold, list_any-fold}
-use Rattle.clause_base.proofs.Rising.{rising_unique}
-use Rattle.goal_choice.specs.Members.{Literals}
+use Rattle.clause_base.specs.Clause.{IsRising}
+use Rattle.containers.specs.Rising.{put}
+use Rattle.clause_base.proofs.published.ClauseLemmas.{rising-fold, list_any-fold}
+use Rattle.clause_base.proofs.published.Rising.{rising_unique}
+use Rattle.goal_choice.specs.own.Members.{Literals}
 use Rattle.goal_choice.specs.Walk.{Support, Chooses, Wants, both, supports, walk}
-use Rattle.goal_choice.specs.Supports.{IsStep}
+use Rattle.goal_choice.specs.own.Supports.{IsStep}
 
 both_assoc : (ks ms : List ℕ) (w : Support) → both (Wants ks) (both (Wants ms) w) ≡ both (Wants (ks ++ ms)) w
 both_assoc ks ms (Chooses c) = refl

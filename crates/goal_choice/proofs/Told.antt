@@ -6,10 +6,10 @@ use Rattle.std.proofs.Math.Seq.{take-suc}
 use Rattle.std.proofs.lemmas.List.{take_all}
 use Rattle.clause_base.specs.Choice.{Known}
 use Rattle.clause_base.specs.Told.{told_value, told_values}
-use Rattle.clause_base.proofs.ToldLemmas.{told_same, told_set, more_elsewhere, more_given, more_open}
-use Rattle.horizon_formula.specs.Layout.{variables}
-use Rattle.goal_choice.specs.Kept.{WalkView, IsWalk, IsSameFrom}
-use Rattle.goal_choice.specs.Told.{ToldView, IsTold, walk_of}
+use Rattle.clause_base.proofs.published.ToldLemmas.{told_same, told_set, more_elsewhere, more_given, more_open}
+use Rattle.formula_defs.specs.Layout.{variables}
+use Rattle.goal_choice.specs.own.Kept.{WalkView, IsWalk, IsSameFrom}
+use Rattle.goal_choice.specs.own.Told.{ToldView, IsTold, walk_of}
 use Rattle.goal_choice.proofs.Kept.{seen_on}
 
 -- a walk that came down to a time came down to each later one

@@ -6,12 +6,12 @@ use Rattle.std.proofs.lemmas.Option.{slice_get_within}
 use Rattle.std.specs.Prelude.{slice_index_or, not}
 use Rattle.std.specs.List.{slice_get, AllByRecursion}
 use Rattle.clause_base.specs.Choice.{Known, same_value}
-use Rattle.horizon_formula.specs.Layout.{Layout, width, fact_at}
-use Rattle.horizon_formula.proofs.LayoutLaw.{product_le}
+use Rattle.formula_defs.specs.Layout.{Layout, width, fact_at}
+use Rattle.formula_defs.proofs.published.LayoutLaw.{product_le}
 use Rattle.goal_choice.specs.Means.{Supporter, Means, variable_from, start_of}
 use Rattle.goal_choice.specs.Walk.{Support, Chooses, Wants, has_value, is_value, is_false_at, lesser, least_with, support_without, support_of, both, supports}
-use Rattle.goal_choice.specs.Members.{IsWithin, AreMeans}
-use Rattle.goal_choice.specs.Kept.{IsPassed}
+use Rattle.goal_choice.specs.own.Members.{IsWithin, AreMeans}
+use Rattle.goal_choice.specs.own.Kept.{IsPassed}
 
 -- another variable keeps its value
 pub get_other : (values : Known) (v w : ℕ) (value : Option Bool) → (w ≡ v → ⊥) → slice_get (set values v value) w ≡ slice_get values w

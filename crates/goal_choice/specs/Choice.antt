@@ -1,7 +1,7 @@
 -- The choice of actions backwards from the goals.
 use Rattle.std.specs.Prelude.{ℕ, Option, Some, None}
 use Rattle.gt_core.specs.Task.{Task}
-use Rattle.horizon_formula.specs.Layout.{Layout}
+use Rattle.formula_defs.specs.Layout.{Layout}
 use Rattle.clause_base.specs.Choice.{Known, plain_choice}
 use Rattle.goal_choice.specs.Means.{Means, means_of}
 use Rattle.goal_choice.specs.Walk.{support_of, walk}

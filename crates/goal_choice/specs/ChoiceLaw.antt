@@ -1,7 +1,7 @@
 -- The choice is open, whatever the supporters are.
 use Rattle.std.proofs.Common.{arith, ◌≡◌, ℕ, zero, suc, ◌*◌, ◌/◌, List, [], ◌∷◌, Bool, true, false, Option, Some, None, if◌then◌else◌, fold, nat_le, refl, ap, ◌∙◌, slice_index_or}
 use Rattle.std.specs.List.{slice_get}
-use Rattle.clause_base.specs.Clause.{put}
+use Rattle.containers.specs.Rising.{put}
 use Rattle.clause_base.specs.Choice.{Known, IsOpenChoice}
 use Rattle.clause_base.specs.ChoiceLaw.{plain_choice-open}
 use Rattle.goal_choice.specs.Means.{Supporter, Means, variable_from, start_of}
@@ -13,10 +13,12 @@ abbrev IsOpen : Known → Option ℕ → Type 0
 IsOpen values None = Unit {0}
 IsOpen values (Some c) = slice_get values (c / 2) ≡ Some None
 
+-- a support that is a decision decides a variable without a value
 abbrev IsOpenSupport : Known → Support → Type 0
 IsOpenSupport values (Chooses c) = slice_get values (c / 2) ≡ Some None
 IsOpenSupport values (Wants ls) = Unit {0}
 
+-- the variable of a supporter that was found has no value
 abbrev IsOpenSupporter : Known → ℕ → Option Supporter → Type 0
 IsOpenSupporter values start None = Unit {0}
 IsOpenSupporter values start (Some s) = slice_get values (variable_from start s) ≡ Some None
@@ -72,6 +74,7 @@ or_open : (values : Known) (o : Option ℕ) → IsOpen values o → IsOpenChoice
 or_open values None h = plain_choice-open values
 or_open values (Some c) h = h
 
+-- the law: what the choice decides is a variable without a value
 pub choice-open : (m : Means) (values : Known) → IsOpenChoice values (choice_by m values)
 choice-open m values =
     or_open values (walk (support_of m values) m.layout.horizon m.goal) (walk_open values (support_of m values) (λ t l. one_open t l) m.layout.horizon m.goal)

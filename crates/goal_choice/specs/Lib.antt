@@ -1,11 +1,5 @@
 pub mod Means
-pub mod Walk
 pub mod Choice
-pub mod Members
-pub mod Supports
 pub mod ChoiceLaw
-pub mod Kept
-pub mod Told
-pub mod Needs
-pub mod Joined
-pub mod Search
+pub mod Walk
+pub mod own

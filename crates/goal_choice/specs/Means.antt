@@ -4,8 +4,8 @@ use Rattle.std.specs.List.{filter}
 use Rattle.gt_core.specs.Literal.{range}
 use Rattle.gt_core.specs.Task.{Task, precondition}
 use Rattle.gt_core.specs.Lawful.{conditional_in}
-use Rattle.horizon_formula.specs.Layout.{Layout, width}
-use Rattle.horizon_formula.specs.Variables.{Row, rows, variable_at}
+use Rattle.formula_defs.specs.Layout.{Layout, width}
+use Rattle.formula_defs.specs.Variables.{Row, rows, variable_at}
 
 -- an effect that makes a fact literal true: its variable in the first step, and what has to hold before it: the precondition of
 -- its action and its condition
@@ -13,6 +13,7 @@ pub record Supporter : Type 0 where
   pub variable : ℕ
   pub needs : List ℕ
 
+-- the supporter that an effect is: its variable in the first step, and what has to hold before it
 abbrev pub supporter_of : Task → Layout → Row → Supporter
 supporter_of task z r = record { variable = variable_at z 0 r; needs = precondition task r.effect.action ++ r.effect.condition }
 

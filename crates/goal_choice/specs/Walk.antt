@@ -1,8 +1,8 @@
 -- The walk from the goals at the last time to the initial state (Rintanen, Artificial Intelligence 193, 2012).
 use Rattle.std.specs.Prelude.{ℕ, zero, suc, ◌%◌, ◌/◌, ◌==◌, List, [], ◌∷◌, ◌++◌, Bool, true, false, not, Option, Some, None, if◌then◌else◌, nat_le, fold, slice_get, slice_index_or}
-use Rattle.horizon_formula.specs.Layout.{Layout, fact_at}
+use Rattle.formula_defs.specs.Layout.{Layout, fact_at}
 use Rattle.clause_base.specs.Literal.{literal_of}
-use Rattle.clause_base.specs.Clause.{put}
+use Rattle.containers.specs.Rising.{put}
 use Rattle.clause_base.specs.Choice.{Known, same_value}
 use Rattle.goal_choice.specs.Means.{Supporter, Means, variable_from, start_of}
 
@@ -50,6 +50,7 @@ support_among values start is_false l supporters =
       | None ↦ support_without start l (if is_false then least_with values None start supporters else None)
     ]
 
+-- what a wanted literal asks for at a time
 abbrev pub support_of : Means → Known → ℕ → ℕ → Support
 support_of m values t l = support_among values (start_of m.layout t) (is_false_at m.layout values t l) l (slice_index_or m.supporters l [])
 

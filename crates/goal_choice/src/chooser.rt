@@ -2,7 +2,7 @@
 
 ghost use Rattle.std.specs.Prelude.{◌≡◌, length, IfOk};
 ghost use Rattle.gt_core.specs.Lawful.{conditional_in};
-ghost use Rattle.horizon_formula.specs.Layout.{variables};
+ghost use Rattle.formula_defs.specs.Layout.{variables};
 ghost use Rattle.goal_choice.specs.Means.{means_of, gathered_of};
 ghost use Rattle.goal_choice.specs.Choice.{choice_by, or_plain};
 ghost use Rattle.goal_choice.specs.ChoiceLaw.{choice-open};
@@ -13,15 +13,16 @@ use crate::supporters::Supporters;
 use crate::told_walk::ToldWalk;
 use clause_base::chooser::{Chooser, PlainChooser};
 use clause_base::literal::Lit;
-use clause_base::memory::Memory;
 use clause_base::values::Values;
+use containers::memory::Memory;
+use formula_defs::layout::Layout;
 use gt_core::task::Task;
-use horizon_formula::layout::Layout;
 use std::alloc::Global;
 use std::marker::Model;
 
 /// The chooser of actions backwards from the goals. It fits the number of variables of the layout that it was made with. Beside
 /// what it chooses by it has two sets to write over.
+/// It borrows nothing, so that it can be handed to a worker.
 #[derive(Drop)]
 pub struct GoalChooser {
     means: Supporters,

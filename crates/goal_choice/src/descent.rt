@@ -1,8 +1,8 @@
 //! A walk goes down from a time.
 
 ghost use Rattle.std.specs.Prelude.{◌≡◌, ◌-◌, ◌≤◌, ◌<◌, Some, length, IfSome, IfNone};
-ghost use Rattle.horizon_formula.specs.Layout.{variables};
-ghost use Rattle.goal_choice.specs.Kept.{walked, IsWalk};
+ghost use Rattle.formula_defs.specs.Layout.{variables};
+ghost use Rattle.goal_choice.specs.own.Kept.{walked, IsWalk};
 
 use crate::literals::Literals;
 use crate::supporters::Supporters;

@@ -2,18 +2,18 @@
 
 ghost use Rattle.std.specs.Prelude.{◌≡◌, ℕ, ◌/◌, [], ◌∷◌, ◌++◌, true, false, length, map, slice_index_or, IfOk, OnOk};
 ghost use Rattle.std.specs.List.{filter};
-ghost use Rattle.goal_choice.specs.Search.{AreMarked};
-ghost use Rattle.goal_choice.specs.Needs.{needs_of};
+ghost use Rattle.goal_choice.specs.own.Search.{AreMarked};
+ghost use Rattle.goal_choice.specs.own.Needs.{needs_of};
 ghost use Rattle.gt_core.specs.Lawful.{is_conditional};
 
 use crate::needs::Needs;
 use clause_base::literal::Lit;
-use clause_base::memory::Memory;
 use containers::FlatLists;
+use containers::memory::Memory;
 use gt_core::act::Act;
 use gt_core::task::Task;
 use std::alloc::Global;
-use step_template::index::Makers;
+use step_formula::index::Makers;
 
 /// How many numbers the lists have.
 fn makers_in(index: &[Makers]) -> usize {

@@ -1,10 +1,10 @@
 //! Sets of fact literals.
 
 ghost use Rattle.std.specs.Prelude.{◌≡◌, ◌≤◌, replicate, IfOk};
-ghost use Rattle.goal_choice.specs.Members.{no_literals};
+ghost use Rattle.goal_choice.specs.own.Members.{no_literals};
 
 use bit_sets::row::BitRow;
-use clause_base::memory::Memory;
+use containers::memory::Memory;
 use std::alloc::Global;
 use std::marker::Model;
 
@@ -17,7 +17,7 @@ pub(crate) struct Literals {
 
 impl Model for Literals {
     ghost use Rattle.std.specs.Prelude.{◌*◌};
-    ghost use Rattle.goal_choice.specs.Members.{Literals, members_of, IsOver};
+    ghost use Rattle.goal_choice.specs.own.Members.{Literals, members_of, IsOver};
 
     ghost Value = { Literals };
 
@@ -30,8 +30,8 @@ impl Literals {
     ghost use Rattle.std.specs.Prelude.{◌≡◌, ◌+◌, ◌≤◌, ◌<◌, ◌/◌, [], ◌∷◌, fold, IfOk, IfSome, IfNone};
     ghost use Rattle.std.specs.Bool.{OnFalse};
     ghost use Rattle.std.specs.List.{AllByRecursion};
-    ghost use Rattle.clause_base.specs.Clause.{put};
-    ghost use Rattle.goal_choice.specs.Members.{members_from};
+    ghost use Rattle.containers.specs.Rising.{put};
+    ghost use Rattle.goal_choice.specs.own.Members.{members_from};
 
     /// The set without literals, with room for those of so many facts.
     pub(crate) fn new(alloc: Global, facts: u32) -> Result<Literals, Memory>

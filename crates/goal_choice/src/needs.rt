@@ -17,7 +17,7 @@ pub(crate) struct Needs {
     pub(crate) conditions: FlatLists<u32>,
 }
 
-/// Letting one go is one call, in which its parts go: whoever holds one proves one step.
+/// All parts are let go in one call, so that a proof has one step for it and not one for each part.
 impl Drop for Needs {
     fn drop(self) {
         let_go!(self: Needs { preconditions, actions, conditions });
@@ -27,7 +27,7 @@ impl Drop for Needs {
 impl Model for Needs {
     ghost use Rattle.std.specs.Prelude.{◌≡◌, ◌<◌, ℕ, List, length};
     ghost use Rattle.std.specs.List.{AllByRecursion};
-    ghost use Rattle.goal_choice.specs.Joined.{all_needs};
+    ghost use Rattle.goal_choice.specs.own.Joined.{all_needs};
 
     ghost Value = { List (List ℕ) };
 

@@ -5,7 +5,7 @@ ghost use Rattle.std.specs.Bool.{OnTrue};
 ghost use Rattle.std.specs.List.{AllByRecursion};
 ghost use Rattle.std.specs.List.Sorted.{IsNonDecreasing};
 ghost use Rattle.goal_choice.specs.Walk.{has_value};
-ghost use Rattle.goal_choice.specs.Search.{least_variable, lesser_variable};
+ghost use Rattle.goal_choice.specs.own.Search.{least_variable, lesser_variable};
 
 use clause_base::values::Values;
 

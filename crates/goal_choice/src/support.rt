@@ -1,9 +1,9 @@
 //! What a wanted literal asks for.
 
 ghost use Rattle.std.specs.Prelude.{◌≡◌, ◌<◌, ◌/◌, ◌%◌, ◌==◌, not, length, Some};
-ghost use Rattle.horizon_formula.specs.Layout.{variables};
+ghost use Rattle.formula_defs.specs.Layout.{variables};
 ghost use Rattle.goal_choice.specs.Walk.{is_false_at, support_of};
-ghost use Rattle.goal_choice.specs.Supports.{meaning, WantsWithin};
+ghost use Rattle.goal_choice.specs.own.Supports.{meaning, WantsWithin};
 
 use crate::search::has_value;
 use crate::supporters::Supporters;

@@ -9,16 +9,16 @@ use crate::flat_lists::list_at;
 use crate::gather::{needs_by_variable, variables_by_literal};
 use crate::needs::Needs;
 use crate::search::least_variable;
-use clause_base::memory::Memory;
 use clause_base::values::Values;
+use containers::memory::Memory;
 use containers::{FlatLists, let_go};
+use formula_defs::layout::Layout;
 use gt_core::task::Task;
-use horizon_formula::layout::Layout;
 use std::alloc::Global;
 use std::marker::Model;
 use std::sync::Arc;
-use step_template::index::index_of;
-use step_template::template::one_layout;
+use step_formula::index::index_of;
+use step_formula::template::one_layout;
 
 /// The goal; for each fact literal the variables in the first step of the effects with it, in the order of the effects, and
 /// whether each is at most the next one; and for each such variable what has to hold before the step.
@@ -29,7 +29,7 @@ struct Blocks {
     needs: Needs,
 }
 
-/// Letting one go is one call, in which its parts go: whoever holds one proves one step.
+/// All parts are let go in one call, so that a proof has one step for it and not one for each part.
 impl Drop for Blocks {
     fn drop(self) {
         let_go!(self: Blocks { goal, variables, rising, needs });
@@ -58,7 +58,10 @@ pub struct Supporters {
 impl Model for Supporters {
     ghost use Rattle.std.specs.Prelude.{◌≡◌, ◌+◌, length};
     ghost use Rattle.std.specs.Arc.{arc_value};
-    ghost use Rattle.goal_choice.specs.{Means.Means, Members.AreMeans, Needs.supporters_in, Search.AreMarked};
+    ghost use Rattle.goal_choice.specs.Means.{Means};
+    ghost use Rattle.goal_choice.specs.own.Members.{AreMeans};
+    ghost use Rattle.goal_choice.specs.own.Needs.{supporters_in};
+    ghost use Rattle.goal_choice.specs.own.Search.{AreMarked};
 
     ghost Value = { Means };
 
@@ -77,7 +80,7 @@ impl Model for Supporters {
 impl Supporters {
     ghost use Rattle.std.specs.Prelude.{◌≡◌};
     ghost use Rattle.clause_base.specs.Clause.{IsRising};
-    ghost use Rattle.goal_choice.specs.Members.{AreMeans};
+    ghost use Rattle.goal_choice.specs.own.Members.{AreMeans};
 
     /// What choosers look at of a task.
     pub fn new(alloc: Global, task: &Task) -> Result<Supporters, Memory>

@@ -2,17 +2,17 @@
 
 ghost use Rattle.std.specs.Prelude.{◌≡◌, ◌-◌, ◌/◌, ◌≤◌, ◌<◌, [], ◌∷◌, ◌++◌, false, Some, None, length, take, IfOk};
 ghost use Rattle.std.specs.Bool.{OnTrue};
-ghost use Rattle.horizon_formula.specs.Layout.{variables, fact_at};
+ghost use Rattle.formula_defs.specs.Layout.{variables, fact_at};
 ghost use Rattle.clause_base.specs.Told.{told_value, told_values};
-ghost use Rattle.goal_choice.specs.Kept.{walked, IsSameFrom};
-ghost use Rattle.goal_choice.specs.Told.{walk_of};
+ghost use Rattle.goal_choice.specs.own.Kept.{walked, IsSameFrom};
+ghost use Rattle.goal_choice.specs.own.Told.{walk_of};
 
 use crate::descent::walk_down;
 use crate::literals::{Literals, empty_sets};
 use crate::supporters::Supporters;
 use clause_base::literal::Lit;
-use clause_base::memory::Memory;
 use clause_base::values::Values;
+use containers::memory::Memory;
 use std::alloc::Global;
 use std::marker::Model;
 
@@ -30,7 +30,7 @@ pub struct ToldWalk {
 
 impl Model for ToldWalk {
     ghost use Rattle.std.specs.Prelude.{vec_capacity};
-    ghost use Rattle.goal_choice.specs.Told.{ToldView, IsTold};
+    ghost use Rattle.goal_choice.specs.own.Told.{ToldView, IsTold};
 
     ghost Value = { ToldView };
 

@@ -1,9 +1,9 @@
 //! A step of the walk from the goals at the last time to the initial state.
 
 ghost use Rattle.std.specs.Prelude.{◌≡◌, ◌<◌, [], length};
-ghost use Rattle.horizon_formula.specs.Layout.{variables};
+ghost use Rattle.formula_defs.specs.Layout.{variables};
 ghost use Rattle.goal_choice.specs.Walk.{support_of, supports};
-ghost use Rattle.goal_choice.specs.Supports.{IsStep};
+ghost use Rattle.goal_choice.specs.own.Supports.{IsStep};
 
 use crate::literals::Literals;
 use crate::support::{Support, support_for};

@@ -7,14 +7,14 @@ use Rattle.pd_model.specs.State.{is_in}
 use Rattle.pd_model.specs.declared.atoms.Atom.{Atom}
 use Rattle.pd_model.specs.declared.calls.Call.{Call}
 use Rattle.pd_model.specs.declared.parts.Parts.{Parts}
-use Rattle.grounding_laws.specs.Sorted.{atom_less, IsSorted}
-use Rattle.grounding_laws.specs.Grounded.{IsGrounded}
-use Rattle.grounding_laws.specs.Simplify.{task_of}
-use Rattle.grounding_laws.specs.Found.{is_constant, facts_of, actions_of, grounded_by}
-use Rattle.grounding_laws.specs.Limits.{most_actions}
-use Rattle.grounding_laws.specs.Laws.{LeastIsGrounded}
-use Rattle.grounder.specs.Found.{AreFound}
-use Rattle.grounder.specs.Putting.{HasExactly}
+use Rattle.grounding_defs.specs.Sorted.{atom_less, IsSorted}
+use Rattle.grounding_defs.specs.Grounded.{IsGrounded}
+use Rattle.grounding_defs.specs.Simplify.{task_of}
+use Rattle.grounding_defs.specs.Found.{is_constant, facts_of, actions_of, grounded_by}
+use Rattle.grounding_defs.specs.Limits.{most_actions}
+use Rattle.grounding_defs.specs.Laws.{LeastIsGrounded}
+use Rattle.grounder.specs.own.Found.{AreFound}
+use Rattle.grounder.specs.own.Putting.{HasExactly}
 
 -- the facts are what the constant atoms leave
 pub left_facts : (p : Parts) (reached : List Atom) (kept : List Call) (constant facts : List Atom) → HasExactly (is_constant p reached kept) constant

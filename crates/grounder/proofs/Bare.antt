@@ -4,7 +4,7 @@ use Rattle.std.proofs.lemmas.List.{append-nil}
 use Rattle.pd_model.specs.Fits.{tuples}
 use Rattle.pd_model.specs.declared.effects.Effect.{Effect}
 use Rattle.pd_model.specs.declared.parts.Parts.{Parts}
-use Rattle.grounding_laws.specs.Instance.{change_of, changes_of}
+use Rattle.grounding_defs.specs.Instance.{change_of, changes_of}
 
 none : (xs : List ℕ) → length xs ≡ 0 → xs ≡ []
 none [] h = refl

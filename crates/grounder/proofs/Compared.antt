@@ -18,16 +18,16 @@ use Rattle.std.proofs.lemmas.List.Sorted.{Contains-permutation, IsPermutation-sy
 use Rattle.std.proofs.lemmas.Map.Keys.{sorted_head, sorted_tail}
 use Rattle.gt_core.specs.Task.{Effect}
 use Rattle.gt_core.specs.Lawful.{list_less, effect_less}
-use Rattle.gt_core.proofs.Basics.{Among, same_if}
-use Rattle.gt_core.proofs.Pairwise.{among_map}
-use Rattle.pd_model.proofs.Equality.{is_eq-then}
-use Rattle.grounding_laws.specs.Sorted.{IsSorted, sorted_set}
-use Rattle.grounding_laws.proofs.Orders.{IsOrder, numbers, effects}
-use Rattle.grounding_laws.proofs.Sets.{unique, is_sorted, sorted_among, among_sorted}
-use Rattle.atom_join.proofs.Order.{by_first, less_list}
-use Rattle.atom_join.proofs.Rising.{deduped_rise}
+use Rattle.gt_core.proofs.published.Basics.{Among, same_if}
+use Rattle.gt_core.proofs.published.Pairwise.{among_map}
+use Rattle.pd_model.proofs.published.Equality.{is_eq-then}
+use Rattle.grounding_defs.specs.Sorted.{IsSorted, sorted_set}
+use Rattle.grounding_defs.proofs.published.Orders.{IsOrder, numbers, effects}
+use Rattle.grounding_defs.proofs.published.Sets.{unique, is_sorted, sorted_among, among_sorted}
+use Rattle.atom_join.proofs.published.Order.{by_first, less_list}
+use Rattle.atom_join.proofs.published.Rising.{deduped_rise}
 use Rattle.grounder.specs.declared.effects.Keyed.{Keyed}
-use Rattle.grounder.specs.Putting.{effect_at, effects_at}
+use Rattle.grounder.specs.own.Putting.{effect_at, effects_at}
 
 -- ---- who is among the elements
 

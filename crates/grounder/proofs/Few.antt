@@ -6,19 +6,19 @@ use Rattle.std.proofs.lemmas.Bool.{and_parts}
 use Rattle.std.proofs.lemmas.Option.{slice_get_within, get_or_from_slice_get}
 use Rattle.std.proofs.lemmas.List.Sums.{get_or-le-sum_by, sum_by-cons}
 use Rattle.std.proofs.Math.Nat.{mul-le-mul_left, mul-le-mul_right}
-use Rattle.gt_core.proofs.Basics.{Among, each_from}
+use Rattle.gt_core.proofs.published.Basics.{Among, each_from}
 use Rattle.pd_model.specs.Fits.{fits, fitting, all_fit, is_call_of}
 use Rattle.pd_model.specs.declared.calls.Call.{Call}
 use Rattle.pd_model.specs.declared.parts.Parts.{Parts}
 use Rattle.pd_model.specs.declared.schemas.Schema.{Schema}
-use Rattle.grounding_laws.specs.Grounded.{is_listed}
-use Rattle.grounding_laws.specs.Reach.{IsKept}
-use Rattle.grounding_laws.specs.Tuples.{product_of, effect_tuples, schema_tuples, tuples_in, saturated}
-use Rattle.grounding_laws.proofs.Kept.{kept_is_call}
-use Rattle.grounding_laws.proofs.Members.{among_call}
-use Rattle.atom_join.proofs.Atoms.{fits_listed}
-use Rattle.grounder.specs.Bindings.{size}
-use Rattle.grounder.specs.Few.{HasFewTuples, HasFewOf, HasFew, HaveFew}
+use Rattle.grounding_defs.specs.Grounded.{is_listed}
+use Rattle.grounding_defs.specs.Reach.{IsKept}
+use Rattle.grounding_defs.specs.Tuples.{product_of, effect_tuples, schema_tuples, tuples_in, saturated}
+use Rattle.grounding_defs.proofs.published.Kept.{kept_is_call}
+use Rattle.grounding_defs.proofs.published.Members.{among_call}
+use Rattle.schema_domains.proofs.published.Listed.{fits_listed}
+use Rattle.grounder.specs.own.Bindings.{size}
+use Rattle.grounder.specs.own.Few.{HasFewTuples, HasFewOf, HasFew, HaveFew}
 use Rattle.grounder.proofs.Saturated.{saturated_is}
 
 pub size_of_types : (p : Parts) (over : List ℕ) → size (map (fitting p) over) ≡ product_of p over
@@ -87,7 +87,3 @@ left_few p test (c ∷ calls) h = here (test c) (left_few p test calls h.1)
     here : (b : Bool) → HaveFew p (filter test calls) → HaveFew p (cond b (c ∷ filter test calls) (filter test calls))
     here true rest = (h.0, rest)
     here false rest = rest
-
--- the effects of a call, as its schema is read
-pub few_read : (p : Parts) (c : Call) (schema : Schema) → slice_get p.schemas c.schema ≡ Some schema → HasFew p c → AllByRecursion (HasFewTuples p) schema.effects
-few_read p c schema at h = subst (HasFewOf p) at h

@@ -6,17 +6,17 @@ use Rattle.std.proofs.lemmas.List.{take_more, take_all}
 use Rattle.std.proofs.lemmas.List.Folds.{list_any-append}
 use Rattle.pd_model.specs.declared.atoms.Atom.{Atom}
 use Rattle.pd_model.specs.State.{is_in, same_atom, SameState}
-use Rattle.pd_model.proofs.Equality.{same_symm}
-use Rattle.pd_model.proofs.States.{is_in-filter}
+use Rattle.pd_model.proofs.published.Equality.{same_symm}
+use Rattle.pd_model.proofs.published.States.{is_in-filter}
 use Rattle.pd_model.specs.Fits.{fitting, tuples}
 use Rattle.pd_model.specs.declared.effects.Effect.{Effect}
 use Rattle.pd_model.specs.declared.parts.Parts.{Parts}
-use Rattle.grounding_laws.specs.Instance.{Change, change_of, changes_of}
-use Rattle.grounding_laws.specs.Found.{deletes, all_may_hold}
+use Rattle.grounding_defs.specs.Instance.{Change, change_of, changes_of}
+use Rattle.grounding_defs.specs.Found.{deletes, all_may_hold}
 use Rattle.grounder.specs.declared.bindings.Bindings.{Bindings}
-use Rattle.grounder.specs.Bindings.{size, tuple_at, AreBindings}
+use Rattle.grounder.specs.own.Bindings.{size, tuple_at, AreBindings}
 use Rattle.grounder.proofs.Tupled.{count_is, change_at}
-use Rattle.grounder.specs.Putting.{LeavesOut}
+use Rattle.grounder.specs.own.Putting.{LeavesOut}
 
 nothing : (b : Bool) → b ≡ (b && true)
 nothing true = refl

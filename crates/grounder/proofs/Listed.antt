@@ -7,9 +7,9 @@ use Rattle.pd_model.specs.Fits.{tuples}
 use Rattle.pd_model.specs.declared.atoms.Atom.{Atom}
 use Rattle.pd_model.specs.declared.effects.Effect.{Effect as Lifted}
 use Rattle.pd_model.specs.declared.parts.Parts.{Parts}
-use Rattle.grounding_laws.specs.Instance.{change_of, changes_of}
-use Rattle.grounding_laws.specs.Found.{deletes}
-use Rattle.grounder.specs.Putting.{left_effects, LeavesOut}
+use Rattle.grounding_defs.specs.Instance.{change_of, changes_of}
+use Rattle.grounding_defs.specs.Found.{deletes}
+use Rattle.grounder.specs.own.Putting.{left_effects, LeavesOut}
 use Rattle.grounder.proofs.Bare.{bare_changes}
 use Rattle.grounder.proofs.Leaving.{left_none, left_same}
 

@@ -2,11 +2,11 @@
 use Rattle.std.proofs.Common.{arith, ◌≡◌, ℕ, ◌<◌, List, Bool, true, false, cond, length, refl, ap, sym, ◌∙◌, Option, Some, None}
 use Rattle.pd_model.specs.declared.atoms.Atom.{Atom}
 use Rattle.pd_model.specs.State.{is_in}
-use Rattle.grounding_laws.specs.Simplify.{place}
+use Rattle.grounding_defs.specs.Simplify.{place}
 use Rattle.std.specs.Prelude.{slice_get, MatchOption}
-use Rattle.grounding_laws.specs.Sorted.{atom_less, IsSorted}
-use Rattle.grounding_laws.proofs.Places.{place_below, place_is, found_in}
-use Rattle.grounding_laws.specs.Simplify.{place_in}
+use Rattle.grounding_defs.specs.Sorted.{atom_less, IsSorted}
+use Rattle.grounding_defs.proofs.published.Places.{place_below, place_is, found_in}
+use Rattle.grounding_defs.specs.Simplify.{place_in}
 
 -- the list has the atom, at this place
 pub record Placed (xs : List Atom) (a : Atom) (i : ℕ) : Type 0 where

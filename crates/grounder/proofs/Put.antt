@@ -15,13 +15,13 @@ use Rattle.pd_model.specs.declared.calls.Call.{Call}
 use Rattle.pd_model.specs.declared.conds.Cond.{Cond}
 use Rattle.pd_model.specs.declared.effects.Effect.{Effect as Lifted}
 use Rattle.pd_model.specs.declared.schemas.Schema.{Schema}
-use Rattle.grounding_laws.specs.Instance.{GroundLiteral, Change, change_of, changes_of, literal_of, literals_of, instance_at, instance_of}
-use Rattle.grounding_laws.specs.Sorted.{sorted_set}
-use Rattle.grounding_laws.specs.Simplify.{place, fact_literal, number_of, simplified, any_never, is_left, effect_of, action_of}
+use Rattle.grounding_defs.specs.Instance.{GroundLiteral, Change, change_of, changes_of, literal_of, literals_of, instance_at, instance_of}
+use Rattle.grounding_defs.specs.Sorted.{sorted_set}
+use Rattle.grounding_defs.specs.Simplify.{place, fact_literal, number_of, simplified, any_never, is_left, effect_of, action_of}
 use Rattle.grounder.specs.declared.bindings.Bindings.{Bindings}
 use Rattle.grounder.specs.declared.effects.Keyed.{Keyed}
-use Rattle.grounder.specs.Bindings.{size, tuple_at, AreBindings}
-use Rattle.grounder.specs.Putting.{add_literal, effect_at, effects_at, add_change, left_effects}
+use Rattle.grounder.specs.own.Bindings.{size, tuple_at, AreBindings}
+use Rattle.grounder.specs.own.Putting.{add_literal, effect_at, effects_at, add_change, left_effects}
 use Rattle.grounder.proofs.Bare.{bare_changes}
 use Rattle.grounder.proofs.Tupled.{count_is, change_at}
 

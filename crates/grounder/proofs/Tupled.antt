@@ -6,8 +6,8 @@ use Rattle.std.proofs.Math.Nat.{div-lt_iff_lt-mul, mul-div_cancel_left}
 use Rattle.pd_model.specs.Fits.{fitting, tuples}
 use Rattle.pd_model.specs.declared.effects.Effect.{Effect}
 use Rattle.pd_model.specs.declared.parts.Parts.{Parts}
-use Rattle.grounding_laws.specs.Instance.{Change, change_of, changes_of}
-use Rattle.grounder.specs.Bindings.{size, tuple_at}
+use Rattle.grounding_defs.specs.Instance.{Change, change_of, changes_of}
+use Rattle.grounder.specs.own.Bindings.{size, tuple_at}
 
 -- each of some objects before each of some tuples
 abbrev blocks : List (List ℕ) → List ℕ → List (List ℕ)

@@ -1,10 +1,10 @@
 //! The actions among the kept calls.
 ghost use Rattle.std.specs.Prelude.{◌≡◌, ◌<◌, ◌+◌, ◌++◌, ◌∷◌, [], length, IfOk, OnOk, if◌then◌else◌};
 ghost use Rattle.std.specs.List.{list_all};
-ghost use Rattle.grounding_laws.specs.Instance.{literals_of, instance_of};
-ghost use Rattle.grounding_laws.specs.Found.{may_be_true, actions_of};
+ghost use Rattle.grounding_defs.specs.Instance.{literals_of, instance_of};
+ghost use Rattle.grounding_defs.specs.Found.{may_be_true, actions_of};
 ghost use Rattle.reachability.specs.Derived.{call_with};
-ghost use Rattle.grounder.specs.Known.{IsKnown};
+ghost use Rattle.grounder.specs.own.Known.{IsKnown};
 
 use crate::known::Known;
 use crate::literals::may_be_true;

@@ -1,12 +1,12 @@
 //! The tuples of objects for the variables of a `forall`, by number. None is listed.
 ghost use Rattle.std.specs.Prelude.{◌≡◌, ◌<◌, ◌≤◌, ◌++◌, IfOk, OnOk, map};
 ghost use Rattle.pd_model.specs.Fits.{fitting};
-ghost use Rattle.grounding_laws.specs.Tuples.{product_of, saturated};
-ghost use Rattle.grounding_laws.specs.Limits.{most_tuples};
-ghost use Rattle.grounder.specs.Bindings.{size, tuple_at, AreBindings};
+ghost use Rattle.grounding_defs.specs.Tuples.{product_of, saturated};
+ghost use Rattle.grounding_defs.specs.Limits.{most_tuples};
+ghost use Rattle.grounder.specs.own.Bindings.{size, tuple_at, AreBindings};
 
-use atom_join::Domains;
 use pd_model::{Memory, Objects};
+use schema_domains::Domains;
 use std::alloc::Global;
 
 /// The objects that fit the type of each variable, and how many tuples of them there are.

@@ -1,7 +1,7 @@
 //! The actions, counted by their effects with a condition while they are made.
 ghost use Rattle.std.specs.Prelude.{◌≡◌, ◌+◌, ◌≤◌, ◌++◌, ◌∷◌, [], min, count_by, OnOk};
 ghost use Rattle.gt_core.specs.Lawful.{is_conditional};
-ghost use Rattle.grounding_laws.specs.Limits.{most_conditional};
+ghost use Rattle.grounding_defs.specs.Limits.{most_conditional};
 
 use gt_core::act::Act;
 use pd_model::Memory;

@@ -2,20 +2,21 @@
 ghost use Rattle.std.specs.Prelude.{◌≡◌, ◌≤◌, false, not, IfOk, OnOk};
 ghost use Rattle.std.specs.List.{list_any, filter};
 ghost use Rattle.pd_model.specs.State.{is_in};
-ghost use Rattle.grounding_laws.specs.Instance.{change_of, changes_of, instance_of};
-ghost use Rattle.grounding_laws.specs.Found.{deletes, is_constant};
-ghost use Rattle.grounding_laws.specs.Limits.{most_tuples};
-ghost use Rattle.grounding_laws.specs.Tuples.{tuples_in};
+ghost use Rattle.grounding_defs.specs.Instance.{change_of, changes_of, instance_of};
+ghost use Rattle.grounding_defs.specs.Found.{deletes, is_constant};
+ghost use Rattle.grounding_defs.specs.Limits.{most_tuples};
+ghost use Rattle.grounding_defs.specs.Tuples.{tuples_in};
 ghost use Rattle.reachability.specs.Derived.{call_with};
-ghost use Rattle.grounder.specs.Found.{AreFound};
-ghost use Rattle.grounder.specs.Putting.{LeavesOut, HasExactly};
-ghost use Rattle.grounder.specs.Few.{HasFewTuples, HasFew, HaveFew};
+ghost use Rattle.grounder.specs.own.Found.{AreFound};
+ghost use Rattle.grounder.specs.own.Putting.{LeavesOut, HasExactly};
+ghost use Rattle.grounder.specs.own.Few.{HasFewTuples, HasFew, HaveFew};
 
 use crate::bindings::bindings_of;
 use crate::literals::all_may_hold;
-use atom_join::{AtomTable, Domains};
+use atom_join::AtomTable;
 use pd_model::{Atoms, Effect, Memory, State, instance_of};
 use reachability::{CallRows, Reached, reach};
+use schema_domains::Domains;
 use std::alloc::Global;
 
 /// Takes out the atom of an instance of a delete, where it is possible.

@@ -2,11 +2,11 @@
 ghost use Rattle.std.specs.Prelude.{◌≡◌, ◌++◌, IfOk, OnOk};
 ghost use Rattle.std.specs.List.{flat_map, AllByRecursion};
 ghost use Rattle.gt_core.specs.Lawful.{effect_less};
-ghost use Rattle.grounding_laws.specs.Instance.{change_of, changes_of};
-ghost use Rattle.grounding_laws.specs.Sorted.{sorted_set};
-ghost use Rattle.grounder.specs.Few.{HasFewTuples};
-ghost use Rattle.grounder.specs.Known.{IsKnown};
-ghost use Rattle.grounder.specs.Putting.{effects_at, add_change, left_effects};
+ghost use Rattle.grounding_defs.specs.Instance.{change_of, changes_of};
+ghost use Rattle.grounding_defs.specs.Sorted.{sorted_set};
+ghost use Rattle.grounder.specs.own.Few.{HasFewTuples};
+ghost use Rattle.grounder.specs.own.Known.{IsKnown};
+ghost use Rattle.grounder.specs.own.Putting.{effects_at, add_change, left_effects};
 
 use crate::bindings::bindings_of;
 use crate::known::Known;

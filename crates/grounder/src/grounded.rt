@@ -1,17 +1,17 @@
 //! What grounding gives.
 ghost use Rattle.std.specs.Prelude.{ℕ, ◌≡◌, ◌≤◌, true, IfOk, Err, length, map};
 ghost use Rattle.gt_core.specs.Lawful.{is_task};
-ghost use Rattle.grounding_laws.specs.Instance.{instance_of};
-ghost use Rattle.grounding_laws.specs.Simplify.{action_of, values_in, task_of};
-ghost use Rattle.grounding_laws.specs.Sorted.{IsSorted, atom_less};
-ghost use Rattle.grounding_laws.specs.Grounded.{IsGrounded};
-ghost use Rattle.grounding_laws.specs.Limits.{most_tuples, most_facts, IsWithin, IsOverTuples, IsOverFacts, IsOverActions, IsOverEffects};
-ghost use Rattle.grounding_laws.specs.Tuples.{tuples_in};
-ghost use Rattle.grounder.specs.Few.{HasFew, HaveFew};
-ghost use Rattle.grounder.specs.Counted.{HasCounted};
-ghost use Rattle.grounder.specs.Found.{AreFound};
-ghost use Rattle.grounder.specs.Numbered.{grounded_with};
-ghost use Rattle.grounder.specs.Known.{IsKnown};
+ghost use Rattle.grounding_defs.specs.Instance.{instance_of};
+ghost use Rattle.grounding_defs.specs.Simplify.{action_of, values_in, task_of};
+ghost use Rattle.grounding_defs.specs.Sorted.{IsSorted, atom_less};
+ghost use Rattle.grounding_defs.specs.Grounded.{IsGrounded};
+ghost use Rattle.grounding_defs.specs.Limits.{most_tuples, most_facts, IsWithin, IsOverTuples, IsOverFacts, IsOverActions, IsOverEffects};
+ghost use Rattle.grounding_defs.specs.Tuples.{tuples_in};
+ghost use Rattle.grounder.specs.own.Few.{HasFew, HaveFew};
+ghost use Rattle.grounder.specs.own.Counted.{HasCounted};
+ghost use Rattle.grounder.specs.own.Found.{AreFound};
+ghost use Rattle.grounder.specs.own.Numbered.{grounded_with};
+ghost use Rattle.grounder.specs.own.Known.{IsKnown};
 
 use crate::actions::{actions_of, count_actions};
 use crate::conditional::Counted;
@@ -21,15 +21,16 @@ use crate::known::Known;
 use crate::literals::any_never;
 use crate::simplify::simplified;
 use crate::tuples::count_tuples;
-use atom_join::{AtomTable, Domains};
+use atom_join::AtomTable;
 use containers::let_go;
-use grounding_laws::laws::laws;
+use grounding_defs::laws::laws;
 use gt_core::act::{Act, Acts};
 use gt_core::eff::Effs;
 use gt_core::lits::{Bits, Lits};
 use gt_core::task::Task;
 use pd_model::{Atom, Atoms, Call, Calls, Memory, Pddl};
 use reachability::CallRows;
+use schema_domains::Domains;
 use std::alloc::Global;
 use std::marker::Model;
 
@@ -41,14 +42,14 @@ pub struct Grounded {
 }
 
 impl Model for Grounded {
-    ghost use Rattle.grounding_laws.specs.Grounded.{Grounded};
+    ghost use Rattle.grounding_defs.specs.Grounded.{Grounded};
 
     ghost Value = { Grounded };
 
     ghost view = { λ g. record { facts = g.facts; calls = g.calls; task = g.task } };
 }
 
-/// Letting one go is one call, in which its parts go: whoever holds one proves one step.
+/// All parts are let go in one call, so that a proof has one step for it and not one for each part.
 impl Drop for Grounded {
     fn drop(self) {
         let_go!(self: Grounded { facts, calls, task });
@@ -170,7 +171,7 @@ struct Numbered {
     task: Task,
 }
 
-/// Letting one go is one call, in which its parts go: whoever holds one proves one step.
+/// All parts are let go in one call, so that a proof has one step for it and not one for each part.
 impl Drop for Numbered {
     fn drop(self) {
         let_go!(self: Numbered { calls, task });

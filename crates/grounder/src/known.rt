@@ -1,6 +1,7 @@
 //! What is known while literals are simplified.
 
-use atom_join::{AtomTable, Domains};
+use atom_join::AtomTable;
+use schema_domains::Domains;
 use std::alloc::Global;
 
 /// The task with the objects that fit its types, the facts, in order, and the initial atoms, and where memory comes from. Of

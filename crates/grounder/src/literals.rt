@@ -1,10 +1,10 @@
 //! The literals of conditions, with objects for variables.
 ghost use Rattle.std.specs.Prelude.{◌≡◌, ◌==◌};
 ghost use Rattle.pd_model.specs.Instance.{value, agrees};
-ghost use Rattle.grounding_laws.specs.Instance.{literal_of, literals_of};
-ghost use Rattle.grounding_laws.specs.Found.{may_hold, all_may_hold, may_be_true};
-ghost use Rattle.grounding_laws.specs.Simplify.{is_never, any_never};
-ghost use Rattle.grounder.specs.Known.{IsKnown};
+ghost use Rattle.grounding_defs.specs.Instance.{literal_of, literals_of};
+ghost use Rattle.grounding_defs.specs.Found.{may_hold, all_may_hold, may_be_true};
+ghost use Rattle.grounding_defs.specs.Simplify.{is_never, any_never};
+ghost use Rattle.grounder.specs.own.Known.{IsKnown};
 
 use crate::known::Known;
 use atom_join::AtomTable;

@@ -1,8 +1,8 @@
 //! Look-ups of facts.
 ghost use Rattle.std.specs.Prelude.{◌≡◌};
 ghost use Rattle.pd_model.specs.Instance.{instance};
-ghost use Rattle.grounding_laws.specs.Sorted.{IsSorted, atom_less};
-ghost use Rattle.grounding_laws.specs.Simplify.{place_in};
+ghost use Rattle.grounding_defs.specs.Sorted.{IsSorted, atom_less};
+ghost use Rattle.grounding_defs.specs.Simplify.{place_in};
 
 use atom_join::AtomTable;
 use pd_model::Pattern;

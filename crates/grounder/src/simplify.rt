@@ -1,9 +1,9 @@
 //! Fact literals: what is left of the literals of conditions.
 ghost use Rattle.std.specs.Prelude.{◌≡◌, ◌<◌, ◌+◌, ◌*◌, IfOk, OnOk, if◌then◌else◌};
-ghost use Rattle.grounding_laws.specs.Instance.{literal_of, literals_of};
-ghost use Rattle.grounding_laws.specs.Simplify.{number_of, simplified};
-ghost use Rattle.grounder.specs.Known.{IsKnown};
-ghost use Rattle.grounder.specs.Putting.{add_literal};
+ghost use Rattle.grounding_defs.specs.Instance.{literal_of, literals_of};
+ghost use Rattle.grounding_defs.specs.Simplify.{number_of, simplified};
+ghost use Rattle.grounder.specs.own.Known.{IsKnown};
+ghost use Rattle.grounder.specs.own.Putting.{add_literal};
 
 use crate::known::Known;
 use crate::places::place_in;

@@ -1,6 +1,6 @@
 //! The count of tuples, before any is listed.
 ghost use Rattle.std.specs.Prelude.{◌≡◌, sum_by};
-ghost use Rattle.grounding_laws.specs.Tuples.{product_of, effect_tuples, schema_tuples, tuples_in, saturated};
+ghost use Rattle.grounding_defs.specs.Tuples.{product_of, effect_tuples, schema_tuples, tuples_in, saturated};
 
 use pd_model::{Effect, Pddl, Schema};
 

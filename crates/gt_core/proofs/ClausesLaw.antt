@@ -3,7 +3,7 @@ use Rattle.std.specs.List.{AllByRecursion}
 use Rattle.gt_core.specs.Interference.{has_clause}
 use Rattle.gt_core.specs.Published.{Pairwise}
 use Rattle.gt_core.specs.Clauses.{KnownClauses, IsClause, IsBefore, IsKnownClauses}
-use Rattle.gt_core.proofs.Basics.{passing, each_at, each_from, or_split, and_split, not_true, test_same}
+use Rattle.gt_core.proofs.published.Basics.{passing, each_at, each_from, or_split, and_split, not_true, test_same}
 
 -- How many known clauses there can be, and over which literals.
 

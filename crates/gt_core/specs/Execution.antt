@@ -23,9 +23,11 @@ action_loses s x f = action_makes s x (2 * f + 1) && not (action_gains s x f)
 abbrev pub makes : Task → (ℕ → Bool) → ℕ → ℕ → Bool
 makes task s a l = action_makes s (action task a) l
 
+-- the action of this number gains a fact
 abbrev pub gains : Task → (ℕ → Bool) → ℕ → ℕ → Bool
 gains task s a f = action_gains s (action task a) f
 
+-- the action of this number loses a fact
 abbrev pub loses : Task → (ℕ → Bool) → ℕ → ℕ → Bool
 loses task s a f = action_loses s (action task a) f
 

@@ -64,27 +64,35 @@ actions_together clauses x y =
 
 -- The same of the numbered actions of a task. An action does not disable itself.
 
+-- an action has a fact in an effect condition
 abbrev pub asks : Task → ℕ → ℕ → Bool
 asks task a f = action_asks (action task a) f
 
+-- one action disables another one
 abbrev pub disables : Task → ℕ → ℕ → Bool
 disables task a b = not (a == b) && action_disables (action task a) (action task b)
 
+-- an action has an effect with this literal
 abbrev pub may_make : Task → ℕ → ℕ → Bool
 may_make task a l = action_may_make (action task a) l
 
+-- an action makes a literal true by an effect without condition
 abbrev pub surely_makes : Task → ℕ → ℕ → Bool
 surely_makes task a l = action_surely_makes (action task a) l
 
+-- an action surely gains a fact
 abbrev pub surely_gains : Task → ℕ → ℕ → Bool
 surely_gains task a f = action_surely_gains (action task a) f
 
+-- an action surely loses a fact
 abbrev pub surely_loses : Task → ℕ → ℕ → Bool
 surely_loses task a f = action_surely_loses (action task a) f
 
+-- some fact is a sure gain of the one and a sure loss of the other
 abbrev pub surely_clash : Task → ℕ → ℕ → Bool
 surely_clash task a b = actions_clash (action task a) (action task b)
 
+-- two actions may share a step, as far as is known
 abbrev pub together : Task → List (ℕ × ℕ) → ℕ → ℕ → Bool
 together task clauses a b = actions_together clauses (action task a) (action task b)
 

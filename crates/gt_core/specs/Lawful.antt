@@ -32,6 +32,7 @@ abbrev pub are_effects : ℕ → Option Effect → List Effect → Bool
 are_effects facts last [] = true
 are_effects facts last (e ∷ es) = follows last e && (nat_lt e.literal (2 * facts) && (is_literal_set facts e.condition && are_effects facts (Some e) es))
 
+-- an action's literals are in range, sorted and without repeats, and so are its effects
 abbrev pub is_action : ℕ → Action → Bool
 is_action facts a = is_literal_set facts a.precondition && are_effects facts None a.effects
 

@@ -14,6 +14,7 @@ pub record RunsInOrder (task : Task) (order : List ℕ) (s members t : ℕ → B
   pub runs : CanRun task s (filter members order)
   pub leads : (f : ℕ) → f < task.facts → run task s (filter members order) f ≡ t f
 
+-- the law that each step runs in published order
 abbrev pub EachStepRunsInOrder : Type 0
 EachStepRunsInOrder =
     (task : Task) (clauses : List (ℕ × ℕ)) (components : List (List ℕ)) (s members t : ℕ → Bool)

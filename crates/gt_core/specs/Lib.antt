@@ -1,6 +1,5 @@
 pub mod Literal
 pub mod Task
-pub mod Kinds
 pub mod Lawful
 pub mod Active
 pub mod Execution
@@ -11,3 +10,4 @@ pub mod AllStep
 pub mod Reached
 pub mod Clauses
 pub mod Laws
+pub mod own

@@ -1,6 +1,6 @@
 use Rattle.std.specs.Prelude.{ℕ, zero, suc, ◌+◌, ◌==◌, List, [], ◌∷◌, Bool, false, unwrap_or, slice_get}
 use Rattle.std.specs.List.{list_any, list_all}
-pub use Rattle.literal_codes.specs.Codes.{opposite, holds}
+pub use Rattle.containers.specs.Codes.{opposite, holds}
 
 -- a number stands in a list
 abbrev pub is_in : List ℕ → ℕ → Bool

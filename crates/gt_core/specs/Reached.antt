@@ -1,4 +1,6 @@
-use Rattle.std.specs.Prelude.{ℕ, List}
+-- What holds in the states that sequences of actions reach from the initial one.
+use Rattle.std.specs.Prelude.{◌≡◌, ℕ, List, Bool, map}
+use Rattle.gt_core.specs.Literal.{range}
 use Rattle.gt_core.specs.Task.{Task, initial_state}
 use Rattle.gt_core.specs.Execution.{CanRun, run}
 use Rattle.gt_core.specs.Interference.{Knows}
@@ -7,3 +9,7 @@ use Rattle.gt_core.specs.Interference.{Knows}
 abbrev pub HoldsWherever : Task → List (ℕ × ℕ) → Type 0
 HoldsWherever task clauses =
     (ks : List ℕ) → CanRun task (initial_state task) ks → Knows clauses (run task (initial_state task) ks)
+
+-- these truth values, one a fact, are those of a state that a sequence of actions reaches from the initial one
+abbrev pub IsReached : Task → List Bool → Type 0
+IsReached task s = (ks : List ℕ) × CanRun task (initial_state task) ks × (s ≡ map (run task (initial_state task) ks) (range task.facts))

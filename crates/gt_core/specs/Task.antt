@@ -43,6 +43,7 @@ effects task = effects_from 0 task.actions
 abbrev pub action : Task → ℕ → Action
 action task a = slice_index_or task.actions a (record { precondition = []; effects = [] })
 
+-- the precondition of an action
 abbrev pub precondition : Task → ℕ → List ℕ
 precondition task a = (action task a).precondition
 
@@ -50,5 +51,6 @@ precondition task a = (action task a).precondition
 abbrev pub action_numbers : Task → List ℕ
 action_numbers task = range (length task.actions)
 
+-- the initial values as a state
 abbrev pub initial_state : Task → ℕ → Bool
 initial_state task = state_of task.initial

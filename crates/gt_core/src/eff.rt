@@ -28,14 +28,14 @@ pub struct Eff {
 
 impl Model for Eff {
     ghost use Rattle.gt_core.specs.Task.{Effect};
-    ghost use Rattle.gt_core.specs.Kinds.{effect_held};
+    ghost use Rattle.gt_core.specs.own.Kinds.{effect_held};
 
     ghost Value = { Effect };
 
     ghost view = { λ e. effect_held e.kind };
 }
 
-/// Letting one go is one call, in which its parts go: whoever holds one proves one step.
+/// All parts are let go in one call, so that a proof has one step for it and not one for each part.
 impl Drop for Eff {
     fn drop(self) {
         let_go!(self: Eff { kind });

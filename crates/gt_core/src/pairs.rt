@@ -1,9 +1,9 @@
 //! Clauses of one or two fact literals that are known of the states of a task.
 
 use crate::clause_list::{in_order, make_room, mark, put_in};
-use crate::memory::Memory;
 use bit_sets::row::{BitRow, empty_rows};
 use containers::let_go;
+use containers::memory::Memory;
 use std::alloc::Global;
 use std::marker::Model;
 
@@ -26,7 +26,7 @@ impl Model for Pairs {
     ghost invariant = { λ p. IsKnownClauses (record { facts = p.facts; clauses = p.clauses.items }) × AreClauseRows p.facts p.clauses.items p.rows.items };
 }
 
-/// Letting one go is one call, in which its parts go: whoever holds one proves one step.
+/// All parts are let go in one call, so that a proof has one step for it and not one for each part.
 impl Drop for Pairs {
     fn drop(self) {
         let_go!(self: Pairs { facts, clauses, rows });

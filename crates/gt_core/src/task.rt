@@ -36,7 +36,7 @@ impl Model for Task {
     ghost invariant = { λ t. is_task (record { facts = t.facts; initial = t.init; goal = t.goal; hopeless = t.hopeless; actions = t.acts }) ≡ true };
 }
 
-/// Letting one go is one call, in which its parts go: whoever holds one proves one step.
+/// All parts are let go in one call, so that a proof has one step for it and not one for each part.
 impl Drop for Task {
     fn drop(self) {
         let_go!(self: Task { facts, init, goal, hopeless, acts });

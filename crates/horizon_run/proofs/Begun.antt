@@ -1,10 +1,10 @@
 -- Runs that were started, as workers advance them.
 use Rattle.std.proofs.Common.{arith, ◌≡◌, ℕ, zero, suc, ◌+◌, Bool, true, false, ◌||◌, refl, sym, ap, ◌∙◌, Result, Ok, Err, OnOk}
-use Rattle.cdcl_rules.specs.Run.{after}
+use Rattle.cdcl_defs.specs.Run.{after}
 use Rattle.horizon_run.specs.Run.{RunView, choice_in, moved_to, AddsUp, IsMoved, Stays}
-use Rattle.horizon_run.specs.Resume.{origin, moved_by, still, goes}
+use Rattle.horizon_run.specs.own.Resume.{origin, moved_by, still, goes}
 use Rattle.horizon_run.proofs.Runs.{resumes, rests}
-use Rattle.horizon_run.specs.Started.{one_if, is_none, still_begun, may_go}
+use Rattle.horizon_run.specs.own.Started.{one_if, is_none, still_begun, may_go}
 
 suc-more : (a n : ℕ) → suc a + n ≡ suc (a + n)
 suc-more a n = omega arith

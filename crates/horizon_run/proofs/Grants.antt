@@ -2,15 +2,15 @@
 use Rattle.std.proofs.Common.{arith, ◌≡◌, ℕ, ◌+◌, ◌-◌, ◌<◌, ◌≤◌, Bool, true, false, true≢false, refl, sym, ap, ◌∙◌, subst, Option, if◌then◌else◌}
 use Rattle.clause_base.specs.Choice.{Known}
 use Rattle.clause_base.specs.Formula.{Cnf}
-use Rattle.cdcl_rules.specs.declared.standing.Standing.{Standing}
-use Rattle.cdcl_rules.specs.declared.standing.Standing.TheVariants.{Going, Found, Refuted}
-use Rattle.cdcl_rules.specs.Run.{start_of, after, is_going}
-use Rattle.cdcl_rules.specs.State.{State}
+use Rattle.cdcl_defs.specs.declared.standing.Standing.{Standing}
+use Rattle.cdcl_defs.specs.declared.standing.Standing.TheVariants.{Going, Found, Refuted}
+use Rattle.cdcl_defs.specs.Run.{start_of, after, is_going}
+use Rattle.cdcl_defs.specs.State.{State}
 use Rattle.goal_choice.specs.Means.{Means}
 use Rattle.goal_choice.specs.Choice.{choice_by}
 use Rattle.horizon_run.specs.Run.{RunView, choice_in, moved_to, reached, AddsUp, IsMoved, IsReached, Stays}
-use Rattle.horizon_run.specs.Resume.{origin}
-use Rattle.horizon_run.specs.Seen.{seen_of, IsBehind}
+use Rattle.horizon_run.specs.own.Resume.{origin}
+use Rattle.horizon_run.specs.own.Seen.{seen_of}
 
 going-of : (s : Standing) → is_going s ≡ true → s ≡ Going
 going-of Going e = refl
@@ -174,14 +174,3 @@ sane_before r n false e stays sound = e
 pub same-origin : (r n : RunView) → n.formula ≡ r.formula → n.means ≡ r.means → origin n ≡ origin r
 same-origin r n formula means i =
     record { formula = formula i; means = means i; state = start_of (formula i); granted = 0; spoilt = false }
-
--- a run that is seen as refuted is seen where its solver is
-pub settled_state : (ahead : Bool) (r now : RunView) (g : ℕ) → seen_of r g ≡ now → now.state.standing ≡ Refuted → (ahead ≡ true → IsBehind r g)
-    → (ahead ≡ false → (seen_of r g).state ≡ r.state) → r.state ≡ now.state
-settled_state true r now g view refuted behind caught =
-    let clash : Going ≡ Refuted = sym (behind refl).going ∙ (ap (λ (v : RunView). v.state.standing) view ∙ refuted) in cc
-settled_state false r now g view refuted behind caught = sym (caught refl) ∙ ap (λ (v : RunView). v.state) view
-
--- what holds of the formula and the state of its solver holds of those that are seen there
-pub state-seen : (P : Cnf → State → Type 0) (r now : RunView) (g : ℕ) → seen_of r g ≡ now → r.state ≡ now.state → P r.formula r.state → P now.formula now.state
-state-seen P r now g view state p = subst (λ (y : Cnf × State). P y.0 y.1) (λ i. (now-formula r now g view i, state i)) p

@@ -5,14 +5,14 @@ use Rattle.goal_choice.specs.Means.{Means}
 use Rattle.goal_choice.specs.Choice.{choice_by}
 use Rattle.goal_choice.specs.ChoiceLaw.{choice-open}
 use Rattle.clause_base.specs.Formula.{Cnf}
-use Rattle.cdcl_rules.specs.declared.trail.Assigned.{Assigned}
-use Rattle.cdcl_rules.specs.Run.{start_of, after, is_going}
-use Rattle.cdcl_rules.specs.Open.{Opens}
-use Rattle.cdcl_rules.specs.State.{State}
-use Rattle.cdcl_rules.specs.Sound.{IsSound, made_true, truths_from}
-use Rattle.cdcl_rules.specs.Laws.{AfterIsSound, AfterAddsUp, AfterSettled, AfterIsWithin, AfterGrants, LogIsShort}
+use Rattle.cdcl_defs.specs.declared.trail.Assigned.{Assigned}
+use Rattle.cdcl_defs.specs.Run.{start_of, after, is_going}
+use Rattle.cdcl_defs.specs.Open.{Opens}
+use Rattle.cdcl_defs.specs.State.{State}
+use Rattle.cdcl_defs.specs.Sound.{IsSound, made_true, truths_from}
+use Rattle.cdcl_defs.specs.Laws.{AfterIsSound, AfterAddsUp, AfterSettled, AfterIsWithin, AfterGrants, LogIsShort}
 use Rattle.horizon_run.specs.Run.{RunView, choice_in, moved_to, reached, IsMoved, IsReached, IsRun, AddsUp, Stays}
-use Rattle.horizon_run.specs.Resume.{origin, moved_by, still, goes}
+use Rattle.horizon_run.specs.own.Resume.{origin, moved_by, still, goes}
 
 -- the choices backwards from the goals are open
 pub means_open : (m : Means) (n : ℕ) → Opens n (choice_by m)

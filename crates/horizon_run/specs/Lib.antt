@@ -1,5 +1,2 @@
 pub mod Run
-pub mod Resume
-pub mod Seen
-pub mod Held
-pub mod Started
+pub mod own

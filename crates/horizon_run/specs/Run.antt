@@ -3,11 +3,11 @@ use Rattle.std.specs.Prelude.{◌≡◌, ℕ, ◌+◌, ◌*◌, ◌≤◌, List,
 use Rattle.clause_base.specs.Choice.{Known}
 use Rattle.clause_base.specs.Formula.{Cnf, IsModel}
 use Rattle.clause_base.specs.Derivation.{clauses_of, IsRefutation}
-use Rattle.cdcl_rules.specs.declared.standing.Standing.TheVariants.{Going, Found, Refuted}
-use Rattle.cdcl_rules.specs.State.{State}
-use Rattle.cdcl_rules.specs.Open.{Opens}
-use Rattle.cdcl_rules.specs.Run.{start_of, after, is_going}
-use Rattle.cdcl_rules.specs.Sound.{IsSound, truths_of as trail_truths}
+use Rattle.cdcl_defs.specs.declared.standing.Standing.TheVariants.{Going, Found, Refuted}
+use Rattle.cdcl_defs.specs.State.{State}
+use Rattle.cdcl_defs.specs.Open.{Opens}
+use Rattle.cdcl_defs.specs.Run.{start_of, after, is_going}
+use Rattle.cdcl_defs.specs.Sound.{IsSound, truths_of as trail_truths}
 use Rattle.goal_choice.specs.Means.{Means}
 use Rattle.goal_choice.specs.Choice.{choice_by}
 -- the choice by which the solver of a horizon decides: backwards from the goals

@@ -10,15 +10,15 @@
 //! run.go_on(50)?;         // its solver handles 49
 //! ```
 ghost use Rattle.std.specs.Prelude.{◌≡◌, ℕ, ◌+◌, ◌≤◌, true, false, OnOk, OnErr, IfSome};
-ghost use Rattle.cdcl_rules.specs.Run.{after};
+ghost use Rattle.cdcl_defs.specs.Run.{after};
 ghost use Rattle.horizon_run.specs.Run.{choice_in, moved_to, AddsUp, IsMoved, IsReached, Stays};
-ghost use Rattle.horizon_run.specs.Resume.{origin};
-ghost use Rattle.horizon_run.specs.Seen.{IsMarkOf};
+ghost use Rattle.horizon_run.specs.own.Resume.{origin};
+ghost use Rattle.horizon_run.specs.own.Seen.{IsMarkOf};
 
 use crate::HorizonRun;
-use cdcl_rules::standing::Standing;
-use clause_base::memory::Memory;
+use cdcl_defs::standing::Standing;
 use containers::let_go;
+use containers::memory::Memory;
 use rup_check::check::Checked;
 use solver_pool::Resume;
 use std::alloc::Global;
@@ -41,7 +41,7 @@ pub struct AheadRun {
 
 impl Model for AheadRun {
     ghost use Rattle.horizon_run.specs.Run.{RunView};
-    ghost use Rattle.horizon_run.specs.Seen.{seen_of, IsAhead};
+    ghost use Rattle.horizon_run.specs.own.Seen.{seen_of, IsAhead};
 
     ghost Value = { RunView };
 
@@ -50,7 +50,7 @@ impl Model for AheadRun {
     ghost invariant = { λ a. IsAhead a.run a.granted a.mark };
 }
 
-/// Letting one go is one call, in which its parts go: whoever holds one proves one step.
+/// All parts are let go in one call, so that a proof has one step for it and not one for each part.
 impl Drop for AheadRun {
     fn drop(self) {
         let_go!(self: AheadRun { run, granted, most, mark, alloc });

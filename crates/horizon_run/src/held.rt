@@ -1,12 +1,13 @@
 // How far a run that was started is.
 ghost use Rattle.std.specs.Prelude.{◌≡◌, ℕ, true, false, IfOk, OnErr};
 ghost use Rattle.horizon_run.specs.Run.{RunView, choice_in, IsMoved, IsReached, Stays};
-ghost use Rattle.horizon_run.specs.{Held.lost_of, Held.run_in, Held.HasLaws, Held.IsOfLaws, Started.may_go};
+ghost use Rattle.horizon_run.specs.own.Held.{lost_of, run_in, HasLaws, IsOfLaws};
+ghost use Rattle.horizon_run.specs.own.Started.{may_go};
 
 use crate::lost::Lost;
 use crate::{AheadRun, HorizonRun, Unmade};
-use cdcl_rules::standing::Standing;
-use clause_base::memory::Memory;
+use cdcl_defs::standing::Standing;
+use containers::memory::Memory;
 use std::alloc::Global;
 use std::mem;
 

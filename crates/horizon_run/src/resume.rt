@@ -2,12 +2,12 @@
 ghost use Rattle.std.specs.Prelude.{◌≡◌, ◌+◌};
 
 use crate::HorizonRun;
-use cdcl_rules::standing::Standing;
+use cdcl_defs::standing::Standing;
 use solver_pool::{Memory, Resume};
 
 impl Resume for HorizonRun {
     ghost use Rattle.std.specs.Prelude.{refl};
-    ghost use Rattle.horizon_run.specs.Resume.{origin, moved_by, still, goes};
+    ghost use Rattle.horizon_run.specs.own.Resume.{origin, moved_by, still, goes};
 
     ghost key_of = { λ r. r.formula.name };
 

@@ -1,20 +1,21 @@
 ghost use Rattle.std.specs.Prelude.{◌≡◌, ℕ, ◌+◌, ◌≤◌, ◌<◌, true, false, IfOk, OnOk, OnErr};
 ghost use Rattle.clause_base.specs.{Formula.IsModel, Derivation.IsRefutation, Derivation.IsDerivation};
-ghost use Rattle.cdcl_rules.specs.{State.value_of, Run.after};
-ghost use Rattle.cdcl_rules.specs.Sound.{made_true};
+ghost use Rattle.cdcl_defs.specs.State.{value_of};
+ghost use Rattle.cdcl_defs.specs.Run.{after};
+ghost use Rattle.cdcl_defs.specs.Sound.{made_true};
 ghost use Rattle.rup_check.specs.Certificate.{Certifies};
 ghost use Rattle.step_encoding.specs.{Limits.planner_literals, Numbers.literals_of};
 ghost use Rattle.horizon_run.specs.Run.{choice_in, choice_of, moved_to, truths_of, IsMoved, IsNew, IsReached, AddsUp, Stays};
 
 use crate::unmade::Unmade;
 use cdcl_core::solver::Solver;
-use cdcl_rules::sound_runs::runs_are_sound;
-use cdcl_rules::standing::Standing;
-use clause_base::memory::Memory;
-use clause_log::log::Log;
+use cdcl_defs::sound_runs::runs_are_sound;
+use cdcl_defs::standing::Standing;
 use containers::let_go;
+use containers::memory::Memory;
 use goal_choice::{GoalChooser, Supporters};
 use gt_core::task::Task;
+use proof_log::log::Log;
 use rup_check::check::{CheckError, Checked, check};
 use std::alloc::Global;
 use std::marker::Model;
@@ -43,7 +44,7 @@ impl Model for HorizonRun {
     ghost invariant = { λ r. IsRun (choice_by r.solver.chooser) r.solver.formula r.solver.state r.granted r.solver.spoilt };
 }
 
-/// Letting one go is one call, in which its parts go: whoever holds one proves one step.
+/// All parts are let go in one call, so that a proof has one step for it and not one for each part.
 impl Drop for HorizonRun {
     fn drop(self) {
         let_go!(self: HorizonRun { solver, granted });

@@ -3,11 +3,11 @@ ghost use Rattle.std.specs.Prelude.{◌≡◌, ℕ, ◌≤◌, true, false, IfOk
 ghost use Rattle.clause_base.specs.{Formula.IsModel, Derivation.IsRefutation};
 ghost use Rattle.rup_check.specs.Certificate.{Certifies};
 ghost use Rattle.horizon_run.specs.Run.{choice_in, truths_of, AddsUp, IsMoved, IsReached, Stays};
-ghost use Rattle.horizon_run.specs.Seen.{seen_of, IsBehind};
+ghost use Rattle.horizon_run.specs.own.Seen.{seen_of, IsBehind};
 
 use crate::{AheadRun, HorizonRun};
-use cdcl_rules::standing::Standing;
-use clause_base::memory::Memory;
+use cdcl_defs::standing::Standing;
+use containers::memory::Memory;
 use rup_check::check::Checked;
 use solver_pool::Resume;
 use std::alloc::Global;

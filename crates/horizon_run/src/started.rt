@@ -1,13 +1,13 @@
 //! A run that was started. It is made in the first turn that advances it.
 
 ghost use Rattle.std.specs.Prelude.{◌≡◌, ℕ, ◌+◌, ◌≤◌, true, false, IfOk, OnOk, OnErr};
-ghost use Rattle.cdcl_rules.specs.Run.{after};
+ghost use Rattle.cdcl_defs.specs.Run.{after};
 ghost use Rattle.horizon_run.specs.Run.{choice_in, moved_to, AddsUp, IsMoved, IsReached, Stays};
 
 use crate::held::{Held, take};
 use crate::{AheadRun, HorizonRun, Unmade};
-use clause_base::memory::Memory;
 use containers::let_go;
+use containers::memory::Memory;
 use std::alloc::Global;
 use std::marker::Model;
 
@@ -23,7 +23,7 @@ pub struct Started {
 impl Model for Started {
     ghost use Rattle.std.specs.Prelude.{◌≡◌};
     ghost use Rattle.horizon_run.specs.Run.{RunView};
-    ghost use Rattle.horizon_run.specs.Held.{run_in, HasLaws};
+    ghost use Rattle.horizon_run.specs.own.Held.{run_in, HasLaws};
 
     ghost Value = { RunView };
 
@@ -32,7 +32,7 @@ impl Model for Started {
     ghost invariant = { λ s. (s.horizon ≡ (run_in s.held).formula.name) × HasLaws s.held };
 }
 
-/// Letting one go is one call, in which its parts go: whoever holds one proves one step.
+/// All parts are let go in one call, so that a proof has one step for it and not one for each part.
 impl Drop for Started {
     fn drop(self) {
         let_go!(self: Started { held, most, horizon, alloc });

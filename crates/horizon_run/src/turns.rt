@@ -6,8 +6,8 @@ use crate::held::Held;
 use solver_pool::{Memory, Resume};
 
 impl Resume for Started {
-    ghost use Rattle.horizon_run.specs.Resume.{origin, moved_by};
-    ghost use Rattle.horizon_run.specs.Started.{still_begun, may_go, may_go-still};
+    ghost use Rattle.horizon_run.specs.own.Resume.{origin, moved_by};
+    ghost use Rattle.horizon_run.specs.own.Started.{still_begun, may_go, may_go-still};
 
     ghost key_of = { λ r. r.formula.name };
 

@@ -1,18 +1,18 @@
 //! The run of a horizon whose solver is not made yet. To make it takes time and the tables of a solver.
 
 ghost use Rattle.std.specs.Prelude.{◌≡◌, ℕ, ◌≤◌, false, IfOk};
-ghost use Rattle.cdcl_rules.specs.Run.{start_of};
-ghost use Rattle.horizon_formula.specs.Layout.{variables};
+ghost use Rattle.cdcl_defs.specs.Run.{start_of};
+ghost use Rattle.formula_defs.specs.Layout.{variables};
 ghost use Rattle.goal_choice.specs.Means.{gathered_of};
 ghost use Rattle.step_encoding.specs.{Limits.planner_literals, Numbers.literals_of};
 ghost use Rattle.horizon_run.specs.Run.{choice_in, choice_of, IsNew, IsReached, Stays};
 
 use crate::run::HorizonRun;
 use cdcl_core::solver::Solver;
-use cdcl_rules::sound_runs::runs_are_sound;
+use cdcl_defs::sound_runs::runs_are_sound;
 use clause_base::formula::Formula;
-use clause_base::memory::Memory;
 use containers::let_go;
+use containers::memory::Memory;
 use goal_choice::{GoalChooser, Supporters};
 use std::alloc::Global;
 use std::marker::Model;
@@ -26,7 +26,7 @@ pub struct Unmade {
 
 impl Model for Unmade {
     ghost use Rattle.std.specs.Prelude.{◌≡◌, false};
-    ghost use Rattle.horizon_formula.specs.Layout.{variables};
+    ghost use Rattle.formula_defs.specs.Layout.{variables};
     ghost use Rattle.goal_choice.specs.Choice.{choice_by};
     ghost use Rattle.horizon_run.specs.Run.{RunView, reached};
 
@@ -43,7 +43,7 @@ impl Model for Unmade {
     ghost invariant = { λ u. u.formula.variables ≡ variables u.chooser.layout };
 }
 
-/// Letting one go is one call, in which its parts go: whoever holds one proves one step.
+/// All parts are let go in one call, so that a proof has one step for it and not one for each part.
 impl Drop for Unmade {
     fn drop(self) {
         let_go!(self: Unmade { formula, chooser });

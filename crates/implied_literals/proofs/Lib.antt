@@ -1,7 +1,3 @@
-pub mod Lists
-pub mod Steps
-pub mod Closing
-pub mod Exact
 pub mod Renewing
 pub mod Bounding
-pub mod Unmoved
+pub mod published

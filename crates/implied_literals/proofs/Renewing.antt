@@ -1,13 +1,13 @@
 use Rattle.std.proofs.Common.{arith, ◌≡◌, ◌==◌, ℕ, ◌+◌, ◌%◌, ◌/◌, ◌<◌, length, List, Bool, true, false, ◌&&◌, ◌||◌, refl, sym, ap, ◌∙◌, ◌⊎◌, inl, inr, subst}
 use Rattle.bit_sets.specs.Rows.{row_has, IsPairAcross}
 use Rattle.gt_core.specs.Literal.{opposite}
-use Rattle.gt_core.proofs.Basics.{or_split, or_left, and_split, and_both, cases, same_test, test_same, apart}
-use Rattle.gt_core.proofs.Literals.{opposite_twice, add_opposite, delete_opposite, even_is_add, odd_is_delete}
+use Rattle.gt_core.proofs.published.Basics.{or_split, or_left, and_split, and_both, cases, same_test, test_same, apart}
+use Rattle.gt_core.proofs.published.Literals.{opposite_twice, add_opposite, delete_opposite, even_is_add, odd_is_delete}
 use Rattle.implied_literals.specs.Rows.{row_at, clause_in, IsPart, IsChained, HasNoPair, IsClosure}
 use Rattle.implied_literals.specs.Tested.{IsSetOf}
 use Rattle.implied_literals.specs.Renewed.{WasClosed, WasTold, WereKnown}
 use Rattle.implied_literals.specs.declared.known.Known.{Known}
-use Rattle.implied_literals.proofs.Closing.{closure_within}
+use Rattle.implied_literals.proofs.published.Closing.{closure_within}
 
 -- What is known after clauses were dropped.
 

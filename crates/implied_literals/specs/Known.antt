@@ -16,6 +16,7 @@ pub record IsFull (V : ℕ → ℕ → Bool) (base : List ℕ) (set : ℕ → Bo
 abbrev pub IsKnown : (ℕ → ℕ → Bool) → List ℕ → ℕ → Type 0
 IsKnown V base l = (set : ℕ → Bool) → IsFull V base set → set l ≡ true
 
+-- each of these literals is known
 abbrev pub AllKnown : (ℕ → ℕ → Bool) → List ℕ → List ℕ → Type 0
 AllKnown V base ls = AllByRecursion (IsKnown V base) ls
 

@@ -5,9 +5,11 @@ use Rattle.gt_core.specs.Literal.{opposite}
 -- Clauses as rows of bits, one row a literal: the literals that stand in a clause with it, and itself where it is a
 -- clause alone.
 
+-- the row of a literal; empty past the last
 abbrev pub row_at : List (List ℕ) → ℕ → List ℕ
 row_at rows l = slice_index_or rows l []
 
+-- two literals stand in a clause
 abbrev pub clause_in : List (List ℕ) → ℕ → ℕ → Bool
 clause_in rows l m = row_has (row_at rows l) m
 
@@ -19,6 +21,7 @@ pub record AreRows (facts : ℕ) (rows : List (List ℕ)) : Type 0 where
 
 -- Sets of literals.
 
+-- each member of the one set is a member of the other
 abbrev pub IsPart : (ℕ → Bool) → (ℕ → Bool) → Type 0
 IsPart set other = (m : ℕ) → set m ≡ true → other m ≡ true
 
@@ -53,9 +56,11 @@ weight set true = 1
 weight true false = 0
 weight false false = 2
 
+-- the sum of the weights of the numbers below n
 abbrev pub total : (ℕ → ℕ) → ℕ → ℕ
 total w zero = 0
 total w (suc n) = w n + total w n
 
+-- how much is left to do: 2 for a literal that is neither known nor listed, 1 for one that is listed
 abbrev pub work : ℕ → (ℕ → Bool) → (ℕ → Bool) → ℕ
 work size set todo = total (λ m. weight (set m) (todo m)) size

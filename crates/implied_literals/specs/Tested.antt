@@ -13,14 +13,17 @@ use Rattle.implied_literals.specs.declared.known.Known.{Known}
 abbrev pub IsSetOf : ℕ → (ℕ → Bool) → Type 0
 IsSetOf size set = (m : ℕ) → set m ≡ true → m < size
 
+-- there is a row for each literal, of literals in range
 pub record AreRowsOf (size : ℕ) (rows : List (List ℕ)) : Type 0 where
   pub long : length rows ≡ size
   pub each : (k : ℕ) → IsSetOf size (row_has (row_at rows k))
 
+-- the literals of an effect are in range
 pub record EffectFits (size : ℕ) (e : Effect) : Type 0 where
   pub literal : opposite e.literal < size
   pub condition : AllByRecursion (λ l. l < size) e.condition
 
+-- the literals of an action are in range
 pub record ActionFits (size : ℕ) (x : Action) : Type 0 where
   pub precondition : AllByRecursion (λ l. l < size) x.precondition
   pub effects : AllByRecursion (EffectFits size) x.effects

@@ -1,4 +1,2 @@
-pub mod Stopped
-pub mod Taking
-pub mod Hearing
 pub mod Several
+pub mod published

@@ -12,7 +12,7 @@ use Rattle.plan_endings.specs.declared.ending.Ending.{Ending}
 use Rattle.judge_top.specs.Seen.{Seen, domain_of, problem_of}
 use Rattle.judge_top.specs.declared.ended.Ended.TheVariants.{Plain}
 use Rattle.judge_top.specs.Causes.{Answers, ComesFor, two_of}
-use Rattle.input_files.proofs.Hearing.{two_taken}
+use Rattle.input_files.proofs.published.Hearing.{two_taken}
 use Rattle.requests.specs.declared.request.Stepping.{Stepping}
 use Rattle.judge_top.specs.declared.ended.Ended.{Ended}
 use Rattle.judge_top.specs.Answers.{TapeRun, tape_run, OnceReady, not_ready, ready, IsTold, AnswersJudge, AnswersModel, too_large, unread, judged, model}

@@ -7,8 +7,8 @@ use Rattle.requests.specs.Arguments.{TakesWords}
 use Rattle.requests.specs.Fit.{IsFit}
 use Rattle.requests.specs.Passed.{HasNumber, Passed}
 use Rattle.requests.specs.Same.{IsSame}
-use Rattle.requests.proofs.ListReaders.{one_passes, norm_lists}
-use Rattle.requests.proofs.Ranges.{number_in}
+use Rattle.requests.proofs.published.ListReaders.{one_passes, norm_lists}
+use Rattle.requests.proofs.published.Ranges.{number_in}
 use Rattle.judge_top.specs.declared.command.Name.{Name}
 use Rattle.judge_top.specs.declared.command.Name.TheVariants.{Formula, Judge, Model}
 use Rattle.judge_top.specs.Command.{command_of, step_words, steps_list}

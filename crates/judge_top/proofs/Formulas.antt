@@ -25,7 +25,7 @@ use Rattle.judge_top.specs.declared.ended.Ended.TheVariants.{Plain}
 use Rattle.judge_top.specs.Answers.{TapeRun, OfKnown, IsFormula, IsTooMany, TellsTooMany, IsToldOf, IsTold, IsBelow, HasNone, word_of, IsVerdict}
 use Rattle.judge_top.specs.declared.model.Told.{Told}
 use Rattle.judge_top.specs.declared.model.Told.TheVariants as told
-use Rattle.grounding_laws.specs.Grounded.{Grounded, IsGrounded}
+use Rattle.grounding_defs.specs.Grounded.{Grounded, IsGrounded}
 use Rattle.pd_model.specs.declared.parts.Parts.{Parts}
 
 -- a task with clauses that are known of some facts, and components

@@ -8,7 +8,7 @@ use Rattle.input_files.specs.declared.stop.Stop.TheVariants.{Ends, Memory}
 use Rattle.input_files.specs.Ends.{EndsBy}
 use Rattle.judge_top.specs.declared.ended.Ended.{Ended}
 use Rattle.judge_top.specs.declared.ended.Ended.TheVariants.{Plain}
-use Rattle.grounding_laws.specs.Grounded.{Grounded}
+use Rattle.grounding_defs.specs.Grounded.{Grounded}
 use Rattle.pd_model.specs.declared.parts.Parts.{Parts}
 use Rattle.plan_tasks.specs.Tasks.{AreTask, IsReady, StopsTask}
 use Rattle.judge_top.specs.Answers.{EndsWith, end_in, OnceReady, not_ready, ready}
@@ -35,10 +35,6 @@ pub task_handed : (domain problem : List ℕ) (answers : Parts → Grounded → 
     → (claim : Ending → Type 0) → ((end : Ending) → claim end → answers task g (Plain end)) → (stop : Stop) (r : Result Ended Stop)
     → IsErrAnd r (λ told. told ≡ stop) → EndsBy claim stop → EndsWith (OnceReady domain problem answers) r
 task_handed domain problem answers task g are is claim more = handed claim (OnceReady domain problem answers) (λ end h. ready task g are is (more end h))
-
--- of want of memory nothing is said
-pub memory_handed : (claim : Ended → Type 0) (r : Result Ended Stop) → IsErrAnd r (λ told. told ≡ Memory) → EndsWith claim r
-memory_handed claim r is = let p = err_from_is_err_and r is in rw (p.1, p.2) tt
 
 -- the ending that there is, is of the kind that was answered
 pub end_answers : (claim : Ended → Type 0) (r : Result Ended Stop) (end : Ended) → EndsWith claim r → Some end ≡ end_in r → claim end

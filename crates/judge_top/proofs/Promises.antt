@@ -6,7 +6,7 @@ use Rattle.sat_text.specs.Dimacs.{formula_text}
 use Rattle.pd_task.specs.declared.error.PddlError.{PddlError}
 use Rattle.pd_task.specs.declared.error.PddlError.TheVariants as errors
 use Rattle.pd_model.specs.declared.parts.Parts.{Parts}
-use Rattle.grounding_laws.specs.Grounded.{Grounded}
+use Rattle.grounding_defs.specs.Grounded.{Grounded}
 use Rattle.step_plans.specs.Known.{form_of, formula_at}
 use Rattle.lrat_judge.specs.Judged.{counted}
 use Rattle.lrat_judge.specs.Verdicts.{last_part, verdict_so_far, verdict_ended, verdict_of}
@@ -24,13 +24,13 @@ use Rattle.plan_tasks.specs.Stepping.{places_by}
 use Rattle.plan_tasks.specs.Tasks.{AreTask, IsReady, StopsTask, refused, past, RefusesTask, domain_tree, problem_tree, no_task, refusal_of}
 use Rattle.plan_tasks.specs.Claims.{Printed, OfFiles}
 use Rattle.plan_tasks.specs.Laws.{TaskLaws}
-use Rattle.plan_tasks.proofs.Claims as claims
+use Rattle.plan_tasks.proofs.published.Claims as claims
 use Rattle.plan_report.specs.Report.{plan_text}
 use Rattle.plan_report.specs.Laws.{IsSmallPlan}
 use Rattle.plan_tasks.specs.PlanLaws.{PlanLaws}
-use Rattle.plan_tasks.proofs.TellingPlans.{model_runs}
-use Rattle.plan_tasks.proofs.Printing.{printed_is}
-use Rattle.plan_tasks.proofs.Statuses.{six_seven, six_seven_eight}
+use Rattle.plan_tasks.proofs.published.TellingPlans.{model_runs}
+use Rattle.plan_tasks.proofs.published.Printing.{printed_is}
+use Rattle.plan_tasks.proofs.published.Statuses.{six_seven, six_seven_eight}
 use Rattle.judge_top.specs.Seen.{Seen, formulas, judges, models, domain_of, problem_of}
 use Rattle.judge_top.specs.Requested.{requested}
 use Rattle.judge_top.specs.Ended.{status_of, text_of}

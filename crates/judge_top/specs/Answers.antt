@@ -5,7 +5,7 @@ use Rattle.clause_base.specs.Formula.{Cnf, IsModel, IsUnsatisfiable, assignment_
 use Rattle.sat_text.specs.Dimacs.{formula_text}
 use Rattle.gt_core.specs.Task.{Task}
 use Rattle.gt_core.specs.Published.{order_of}
-use Rattle.grounding_laws.specs.Grounded.{Grounded}
+use Rattle.grounding_defs.specs.Grounded.{Grounded}
 use Rattle.pd_model.specs.declared.parts.Parts.{Parts}
 use Rattle.pl_io.specs.Outside.{Rose}
 use Rattle.pl_io.specs.Tape as tapes
@@ -96,6 +96,7 @@ pub record TapeRun : Type 0 where
   pub rises : ℕ
   pub given : tapes.Given
 
+-- the record of these counts and of what was handed over
 abbrev pub tape_run : ℕ → ℕ → tapes.Given → TapeRun
 tape_run faults rises given = record { faults = faults; rises = rises; given = given }
 

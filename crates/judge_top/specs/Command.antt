@@ -23,6 +23,7 @@ word_of Formula = codes "formula"
 word_of Judge = codes "judge"
 word_of Model = codes "model"
 
+-- The word of the horizon.
 abbrev pub horizon_word : Rule
 horizon_word = reading_word (codes "horizon") (reader.Signed (pos 0) (pos 255))
 

@@ -13,7 +13,7 @@ use Rattle.lrat_judge.specs.declared.verdict.Verdict.TheVariants.{Refuted, Rejec
 use Rattle.judge_top.specs.Ended.{text_of}
 use Rattle.judge_top.specs.declared.ended.Ended.TheVariants.{Plain, NoModel, NoText}
 use Rattle.plan_endings.specs.declared.ending.Ending.{Ending}
-use Rattle.grounding_laws.specs.Grounded.{Grounded}
+use Rattle.grounding_defs.specs.Grounded.{Grounded}
 use Rattle.plan_tasks.specs.Tasks.{AreTask, StopsTask}
 use Rattle.plan_report.specs.Report.{plan_text}
 use Rattle.sat_text.specs.FirstFalse.{IsFirstFalse}
@@ -68,9 +68,11 @@ module _ (how : Stepping) (horizon : ℕ) (bytes text : List ℕ) (task : Parts)
 abbrev pub TellsModel : Stepping → ℕ → List ℕ → List ℕ → Parts → Type 0
 TellsModel how horizon bytes text task = OfGrounded task (IsModelTold how horizon bytes text task)
 
+-- the values that the bytes tell leave a clause of the formula untrue, and the text tells the first
 abbrev pub TellsNoModel : Stepping → ℕ → List ℕ → List ℕ → Parts → Type 0
 TellsNoModel how horizon bytes text task = OfGrounded task (IsNoModelTold how horizon bytes text task)
 
+-- the bytes are no text of a model, and the text tells where
 abbrev pub TellsNoText : Stepping → ℕ → List ℕ → List ℕ → Parts → Type 0
 TellsNoText how horizon bytes text task = OfGrounded task (IsNoTextTold how horizon bytes text task)
 

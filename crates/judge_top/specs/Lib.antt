@@ -1,7 +1,7 @@
 pub mod Answers
 pub mod Causes
-pub mod Headline
-pub mod Ended
 pub mod Command
+pub mod Ended
+pub mod Headline
 pub mod Requested
 pub mod Seen

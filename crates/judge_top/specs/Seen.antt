@@ -38,6 +38,7 @@ domain_of (formulas d p h s) = d
 domain_of (judges d p h l s) = d
 domain_of (models d p h m s) = d
 
+-- The name of the problem.
 abbrev pub problem_of : Seen → Text
 problem_of (formulas d p h s) = p
 problem_of (judges d p h l s) = p

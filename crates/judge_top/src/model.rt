@@ -13,7 +13,7 @@ use crate::formula::formula_of;
 use action_order::publish::publish;
 use all_steps::form::BothWays;
 use clause_base::formula::Formula;
-use clause_base::memory::Memory;
+use containers::memory::Memory;
 use gt_core::task::Task;
 use input_files::stop::Stop;
 use pl_io::{TakeError, Tape};

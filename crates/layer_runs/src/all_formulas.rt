@@ -12,11 +12,11 @@ use clause_base::view::View;
 use gt_core::act::{Act, Acts};
 use gt_core::lits::{Bits, Lits};
 use gt_core::task::Task;
-use sample_tasks::actions::plain;
-use sample_tasks::worked;
 use std::alloc::AllocError;
 use std::thread::Threads;
 use step_encoding::form::StepForm;
+use test_kit::actions::plain;
+use test_kit::worked;
 use two_invariants::find;
 
 /// How large a formula is, in words.

@@ -1,6 +1,6 @@
 //! Formulas, clause by clause: those of exists-steps and of all-steps of two worked tasks, and of twenty small tasks that are
 //! drawn from numbers, first under no known pair and then under all pairs that each action keeps by itself. What is due,
-//! `bench/reference/list-formulas` wrote, from the definition of the clauses alone.
+//! `bench/reference/formulas` wrote, from the definition of the clauses alone.
 
 ghost use Rattle.std.specs.Prelude.{◌≡◌, ◌≤◌, IfOk};
 ghost use Rattle.gt_core.specs.Published.{IsPublished};
@@ -14,17 +14,17 @@ use action_order::order::Order;
 use all_steps::form::BothWays;
 use clause_base::formula::Formula;
 use clause_base::view::View;
-use gt_core::memory::Memory;
+use containers::memory::Memory;
 use gt_core::pairs::Pairs;
 use gt_core::task::Task;
-use sample_tasks::dice::Dice;
-use sample_tasks::kept::kept_pairs;
-use sample_tasks::{drawn, worked};
 use std::alloc::AllocError;
 use step_encoding::exists::Components;
 use step_encoding::form::StepForm;
 use step_encoding::placed::{Placed, Placing};
 use step_encoding::steps::Steps;
+use test_kit::dice::Dice;
+use test_kit::kept::kept_pairs;
+use test_kit::{drawn, worked};
 
 /// How many tasks are drawn.
 const TASKS: u32 = 20;

@@ -7,12 +7,12 @@ ghost use Rattle.gt_core.specs.Reached.{HoldsWherever};
 use crate::lines::{Out, keep, put};
 use action_order::order::Order;
 use action_order::publish::publish;
-use gt_core::memory::Memory;
+use containers::memory::Memory;
 use gt_core::pairs::Pairs;
 use gt_core::task::Task;
-use sample_tasks::kept::are_kept;
-use sample_tasks::large::add_place_pairs;
-use sample_tasks::rooms::add_lamp_pairs;
+use test_kit::kept::are_kept;
+use test_kit::large::add_place_pairs;
+use test_kit::rooms::add_lamp_pairs;
 
 /// The pairs that are known of the lamps of so many rooms; of no room, none. With them the pairs of the places, for the word `known`.
 pub(crate) fn pairs_of(out: &mut Out, task: &Task, rooms: u32, word: &str) -> Result<Pairs, Memory>

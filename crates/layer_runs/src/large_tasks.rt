@@ -1,6 +1,6 @@
-//! The published order of the large tasks of `sample_tasks`, their two-literal invariants, and their formulas, counted and summed up.
+//! The published order of the large tasks of `test_kit`, their two-literal invariants, and their formulas, counted and summed up.
 //! The word `known` names `moves` where it is known that no two of the places hold together: 130,816 pairs. What is due of the robot
-//! in rooms, `bench/reference/list-large-formula` wrote, from the definition of the clauses alone. A body that gives up past some size fails there.
+//! in rooms, `bench/reference/formulas` wrote, from the definition of the clauses alone. A body that gives up past some size fails there.
 
 ghost use Rattle.std.specs.Prelude.{◌≡◌, ◌<◌, ◌≤◌, IfOk};
 
@@ -10,14 +10,14 @@ use crate::lines::{Out, put};
 use action_order::publish::publish;
 use clause_base::formula::Formula;
 use clause_base::view::View;
-use gt_core::memory::Memory;
+use containers::memory::Memory;
 use gt_core::pairs::Pairs;
 use gt_core::task::Task;
-use sample_tasks::large::large;
-use sample_tasks::rooms::rooms;
 use std::thread::Threads;
 use step_encoding::exists::ExistsForm;
 use step_encoding::form::StepForm;
+use test_kit::large::large;
+use test_kit::rooms::rooms;
 use two_invariants::find;
 
 /// The number that comes after another one by a literal.

@@ -6,10 +6,10 @@ use clause_base::clause::Clause;
 use clause_base::formula::Formula;
 use clause_base::literal::Lit;
 use clause_base::log::{Entry, Hints};
-use clause_base::memory::Memory;
-use clause_log::log::Log;
-use clause_log::numbers::Numbers;
-use clause_log::reader::Step;
+use containers::memory::Memory;
+use proof_log::log::Log;
+use proof_log::numbers::Numbers;
+use proof_log::reader::Step;
 use rup_check::check::{CheckError, check};
 
 /// The most clauses of a formula, and entries of a log, that are checked.

@@ -1,14 +1,14 @@
 //! The checker on a log of 400,000 entries of 20 hints each, over a chain of implications.
 //!
 //! The formula says that variable 0 is true, that each variable of a chain implies the next one, and that the last one is
-//! false. So each entry follows by going along the chain. `bench/time/check-log` times a run.
+//! false. So each entry follows by going along the chain. `bench/time/layers log` times a run.
 
 use crate::dimacs::formula_of;
 use crate::lines::{Out, keep};
 use crate::logs::put_answer;
 use clause_base::clause::Clause;
 use clause_base::literal::Lit;
-use clause_log::log::Log;
+use proof_log::log::Log;
 
 /// How many entries the log has.
 const ENTRIES: u32 = 400_000;

@@ -11,6 +11,10 @@
 //!
 //! The gate runs `all`. The file `stdout` is not this program's: scripts that read the definitions plainly wrote it, or it was worked
 //! out by hand.
+//!
+//! It is one program with a module for each subject, since each program pays for all that stands below it and is built by two compilers. What
+//! the runs print goes through `lines`, whose `Out` keeps whether something could not be made. What `formulas` and `large_tasks` have to print was
+//! written by scripts of `bench/reference` over `bench/reference/definitions.py`, which read the definitions plainly and nothing of the code.
 #![tactic(auto)]
 
 mod all_formulas;

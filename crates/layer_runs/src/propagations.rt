@@ -2,9 +2,9 @@
 //! made: the solver stops before each conflict, and what stands on its trail then above what it kept of the one before is new.
 use crate::lines::{Out, keep};
 use crate::solver::{Plain, go_on};
-use cdcl_rules::trail::Assigned;
+use cdcl_defs::trail::Assigned;
 
-/// At each so manyth conflict the solver restarts: of its trail it keeps what stands before the first decision.
+/// After each so many conflicts the solver restarts: of its trail it keeps what stands before the first decision.
 const RESTART: u64 = 64;
 
 /// How many entries of a trail from a place on a clause forced.

@@ -14,7 +14,7 @@ use crate::propagations::count_propagations;
 use cdcl_core::Standing;
 use cdcl_core::solver::Solver;
 use clause_base::chooser::PlainChooser;
-use clause_base::memory::Memory;
+use containers::memory::Memory;
 
 /// The solver with the plain chooser.
 pub(crate) type Plain = Solver<PlainChooser>;

@@ -1,11 +1,11 @@
 -- How a checker, ids and a count stand after a line.
-use Rattle.std.proofs.Common.{arith, ◌≡◌, ◌+◌, ◌<◌, ◌≤◌, ◌||◌, not, ℕ, zero, suc, List, [], ◌∷◌, ◌++◌, length, get_or, drop, Bool, true, false, Option, Some, None, Result, Ok, Err, option_map, refl, sym, ap, ◌∙◌, subst, length-append, append_assoc}
+use Rattle.std.proofs.Common.{arith, ◌≡◌, ◌+◌, ◌<◌, ◌≤◌, ◌||◌, not, ℕ, zero, suc, List, [], ◌∷◌, ◌++◌, length, get_or, drop, Bool, true, false, Option, Some, None, Result, Ok, Err, option_map, refl, sym, ap, ◌∙◌, subst, length-append}
 use Rattle.std.specs.Prelude.{option_and_then, nat_lt, IfOk}
 use Rattle.std.specs.List.{list_all}
 use Rattle.std.proofs.Math.ListN.{drop_of_length-le}
 use Rattle.std.proofs.Math.Seq.{drop-cons}
-use Rattle.std.proofs.lemmas.Bool.{lt-ltb, le-ltb, ltb-true}
-use Rattle.lrat_judge.specs.Ids.{Rises, place_of}
+use Rattle.std.proofs.lemmas.Bool.{lt-ltb, ltb-true}
+use Rattle.lrat_judge.specs.Ids.{Rises}
 use Rattle.clause_base.specs.Clause.{clause_of}
 use Rattle.clause_base.specs.Formula.{Cnf}
 use Rattle.clause_base.specs.Derivation.{is_derived_after}
@@ -132,26 +132,6 @@ rises_not id ids not_so = by (rises id ids) refl
     by false e = e
 
 -- ---- ids and numbers
-
-pub named_is : (ids : List ℕ) (id n m : ℕ) → Some n ≡ place_of ids id → n < 4294967296 → m ≡ n → Some m ≡ number_named ids id
-named_is ids id n m is small same = rw (← is) (rw (lt-ltb n 4294967296 small) (ap (λ (k : ℕ). Some k) same))
-
-pub named_large : (ids : List ℕ) (id n : ℕ) → Some n ≡ place_of ids id → 4294967296 ≤ n → None ≡ number_named ids id
-named_large ids id n is large = rw (← is) (rw (le-ltb n 4294967296 large) refl)
-
-pub named_none : (ids : List ℕ) (id : ℕ) → None ≡ place_of ids id → None ≡ number_named ids id
-named_none ids id none = rw (← none) refl
-
--- one id more that names a number
-pub names_more : (table ids : List ℕ) (id n : ℕ) (so_far : List ℕ) → Some n ≡ number_named table id → option_map (λ ns. so_far ++ ns) (numbers_named table (id ∷ ids)) ≡ option_map (λ ns. (so_far ++ n ∷ []) ++ ns) (numbers_named table ids)
-names_more table ids id n so_far is = rw (← is) (by (numbers_named table ids))
-  where
-    by : (o : Option (List ℕ)) → option_map (λ (ns : List ℕ). so_far ++ ns) (option_map (λ (ns : List ℕ). n ∷ ns) o) ≡ option_map (λ (ns : List ℕ). (so_far ++ n ∷ []) ++ ns) o
-    by None = refl
-    by (Some ns) = ap (λ (ms : List ℕ). Some ms) (sym (append_assoc so_far (n ∷ []) ns))
-
-pub names_none : (table ids : List ℕ) (id : ℕ) → None ≡ number_named table id → numbers_named table (id ∷ ids) ≡ None
-names_none table ids id none = rw (← none) refl
 
 -- ---- what was said
 

@@ -11,8 +11,8 @@ use Rattle.lrat_judge.specs.Verdicts.{Outcome, Ends, Goes, outcome_known, outcom
 use Rattle.lrat_judge.specs.Reached.{IsBefore, Comes, HasRead, has_no_end}
 use Rattle.lrat_judge.specs.declared.verdict.Verdict.{Verdict}
 use Rattle.lrat_judge.specs.declared.verdict.Verdict.TheVariants.{More, Refuted, Rejected, NotEmpty, Syntax}
-use Rattle.sat_text.proofs.Texts.{last_on, last_more}
-use Rattle.sat_text.proofs.Pieces as pieces
+use Rattle.sat_text.proofs.published.Texts.{last_on, last_more}
+use Rattle.sat_text.proofs.published.Pieces as pieces
 
 -- no line ends the judging with a verdict by which it goes on
 ends_apart : (formula : Cnf) (known : Known) (at count : ℕ) (line : Option LineView) → outcome_line formula known at count line ≡ Ends More → ⊥

@@ -1,5 +1,5 @@
 pub mod Judged
-pub mod Follow
 pub mod Verdicts
 pub mod Reached
+pub mod Follow
 pub mod Ids

@@ -12,7 +12,7 @@ ghost use Rattle.lrat_judge.specs.Reached.{StandsAt, Stands, Enters};
 use crate::ids::IdTable;
 use clause_base::clause::Clause;
 use clause_base::literal::Lit;
-use clause_base::memory::Memory;
+use containers::memory::Memory;
 use rup_check::checker::Checker;
 use sat_text::lrat_line::Line;
 use std::alloc::Global;

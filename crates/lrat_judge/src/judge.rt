@@ -10,7 +10,7 @@ ghost use Rattle.lrat_judge.specs.Reached.{IsBefore, Comes, HasRead, has_no_end}
 use crate::lines::Lines;
 use crate::verdict::Verdict;
 use clause_base::formula::Formula;
-use clause_base::memory::Memory;
+use containers::memory::Memory;
 use sat_text::lines::first_line;
 use std::alloc::Global;
 use std::marker::Model;

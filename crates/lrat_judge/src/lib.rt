@@ -14,6 +14,9 @@
 //! }
 //! Ok(judge.finish())
 //! ```
+//!
+//! It reads a line at a time (`lines`), turns ids into numbers of clauses (`entries`, by `ids`), and hands each entry to the `Checker` of
+//! rup_check. What a text comes to is a function of its bytes (`verdict_of` of `specs/Verdicts.antt`), by which the judge is exact.
 #![tactic(auto)]
 
 mod entries;

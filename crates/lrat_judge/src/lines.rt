@@ -11,7 +11,7 @@ use crate::entries::{forget, learn};
 use crate::ids::IdTable;
 use crate::verdict::Verdict;
 use clause_base::formula::Formula;
-use clause_base::memory::Memory;
+use containers::memory::Memory;
 use rup_check::checker::Checker;
 use sat_text::lrat_line::Line;
 use std::alloc::Global;

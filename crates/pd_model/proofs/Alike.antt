@@ -20,8 +20,8 @@ use Rattle.pd_model.specs.Instance.{instance, agrees, holds, all_hold}
 use Rattle.pd_model.specs.Fits.{tuples, is_call}
 use Rattle.pd_model.specs.Exec.{active, of_sign, gains, losses, next, exec_schema, exec}
 use Rattle.pd_model.specs.Plan.{verdict_from, verdict, exec_all, meets_goal, IsPlan}
-use Rattle.pd_model.specs.Follows.{Follows}
-use Rattle.pd_model.proofs.States.{is_in-filter}
+use Rattle.pd_model.specs.own.Follows.{Follows}
+use Rattle.pd_model.proofs.published.States.{is_in-filter}
 
 pub same_holds : (s t : List Atom) → SameState s t → (objects : List ℕ) (c : Cond) → holds s objects c ≡ holds t objects c
 same_holds s t same objects (Has atom want) = λ i. agrees want (same (instance objects atom) i)

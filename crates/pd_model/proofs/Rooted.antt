@@ -4,7 +4,7 @@ use Rattle.std.specs.Prelude.{nat_lt, slice_index, slice_get}
 use Rattle.std.proofs.lemmas.List.{length-map}
 use Rattle.std.proofs.lemmas.Bool.{ltb-true, and_parts}
 use Rattle.pd_model.specs.Types.{parents_of, kinds_of}
-use Rattle.pd_model.specs.Walk.{AreRooted}
+use Rattle.pd_model.specs.own.Walk.{AreRooted}
 use Rattle.pd_model.specs.WellFormed.{are_below, IsWellFormed}
 use Rattle.pd_model.specs.declared.objects.ObjectDecl.{ObjectDecl}
 use Rattle.pd_model.specs.declared.parts.Parts.{Parts}

@@ -9,7 +9,7 @@ use Rattle.std.proofs.lemmas.List.Concat.{flat_map-append, flat_map-cons}
 use Rattle.pd_model.specs.State.{same_atom, is_in, SameState}
 use Rattle.pd_model.specs.Instance.{value, instance, holds, all_hold}
 use Rattle.pd_model.specs.Exec.{active_at}
-use Rattle.pd_model.specs.Variables.{is_variable, atom_names, cond_names, effect_names}
+use Rattle.pd_model.specs.own.Variables.{is_variable, atom_names, cond_names, effect_names}
 use Rattle.pd_model.specs.declared.atoms.Term.{Term}
 use Rattle.pd_model.specs.declared.atoms.Term.TheVariants.{Object, Variable}
 use Rattle.pd_model.specs.declared.atoms.Pattern.{Pattern}
@@ -17,7 +17,7 @@ use Rattle.pd_model.specs.declared.atoms.Atom.{Atom}
 use Rattle.pd_model.specs.declared.conds.Cond.{Cond}
 use Rattle.pd_model.specs.declared.conds.Cond.TheVariants.{Has, Same}
 use Rattle.pd_model.specs.declared.effects.Effect.{Effect}
-use Rattle.pd_model.proofs.Walks.{moved, signed_more}
+use Rattle.pd_model.proofs.published.Walks.{moved, signed_more}
 
 -- ---- sets that grow
 

@@ -7,9 +7,9 @@ use Rattle.std.proofs.lemmas.List.Sums.{sum_by-set, sum_by-cons}
 use Rattle.std.proofs.lemmas.Bool.{cases_eq, eqb-true, eq-eqb, leb-true, le-leb, lt-ltb, and_parts}
 use borrow.Author.Tests.{ltb-true}
 use Rattle.pd_model.specs.Types.{leads_to, is_under}
-use Rattle.pd_model.specs.TypeTree.{is_between, IsTypeTree}
-use Rattle.pd_model.specs.Walk.{Above, AreRooted, AreChains, IsWalk, to_do}
-use Rattle.pd_model.specs.Walk.Above.{here, up}
+use Rattle.pd_model.specs.own.TypeTree.{is_between, IsTypeTree}
+use Rattle.pd_model.specs.own.Walk.{Above, AreRooted, AreChains, IsWalk, to_do}
+use Rattle.pd_model.specs.own.Walk.Above.{here, up}
 
 -- ---- one number is written
 

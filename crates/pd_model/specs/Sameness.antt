@@ -9,6 +9,7 @@ pub record Under : Type 0 where
   pub over : List ℕ
   pub cond : List Cond
 
+-- what an effect stands under
 abbrev pub under_of : Effect → Under
 under_of e = record { over = e.over; cond = e.cond }
 

@@ -39,7 +39,7 @@ impl Model for Effects {
     ghost invariant = { λ e. AreSame no_under e.items.items e.marks.items };
 }
 
-/// Letting them go is one call, in which their parts go: whoever holds them proves one step.
+/// All parts are let go in one call, so that a proof has one step for it and not one for each part.
 impl Drop for Effects {
     fn drop(self) {
         let_go!(self: Effects { items, marks });

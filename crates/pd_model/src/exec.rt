@@ -6,7 +6,7 @@ ghost use Rattle.pd_model.specs.State.{SameState};
 ghost use Rattle.pd_model.specs.Instance.{agrees};
 ghost use Rattle.pd_model.specs.Fits.{tuples};
 ghost use Rattle.pd_model.specs.Exec.{active, active_at, of_sign};
-ghost use Rattle.pd_model.specs.Variables.{effect_names};
+ghost use Rattle.pd_model.specs.own.Variables.{effect_names};
 
 use crate::fits::fitting_objects;
 use crate::instance::{are_true, instance_of};

@@ -18,7 +18,7 @@ pub struct Parts {
     pub goal: Conds,
 }
 
-/// Letting one go is one call, in which its parts go: whoever holds one proves one step.
+/// All parts are let go in one call, so that a proof has one step for it and not one for each part.
 impl Drop for Parts {
     fn drop(self) {
         let_go!(self: Parts { types, predicates, objects, schemas, init, goal });

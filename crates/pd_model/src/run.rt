@@ -3,7 +3,7 @@ ghost use Rattle.std.specs.Prelude.{◌≡◌, ◌↔◌, ◌<◌, ◌^◌, ℕ,
 ghost use Rattle.std.specs.List.{list_all};
 ghost use Rattle.pd_model.specs.State.{SameState};
 ghost use Rattle.pd_model.specs.Exec.{exec, next};
-ghost use Rattle.pd_model.specs.Follows.{Follows};
+ghost use Rattle.pd_model.specs.own.Follows.{Follows};
 ghost use Rattle.pd_model.specs.Fits.{is_call};
 ghost use Rattle.pd_model.specs.Plan.{verdict, IsPlan};
 

@@ -1,8 +1,8 @@
 // The tree of types.
 ghost use Rattle.std.specs.Prelude.{◌≡◌, ◌<◌, ◌^◌, ℕ, IfOk, length, slice_index};
 ghost use Rattle.pd_model.specs.Types.{parents_of};
-ghost use Rattle.pd_model.specs.TypeTree.{is_between, IsTypeTree};
-ghost use Rattle.pd_model.specs.Walk.{AreRooted};
+ghost use Rattle.pd_model.specs.own.TypeTree.{is_between, IsTypeTree};
+ghost use Rattle.pd_model.specs.own.Walk.{AreRooted};
 
 use crate::walk::Walk;
 use crate::{Memory, TypeDecl};

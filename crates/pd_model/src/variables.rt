@@ -1,7 +1,7 @@
 // Which variables an effect names.
 ghost use Rattle.std.specs.Prelude.{◌≡◌};
 ghost use Rattle.std.specs.List.{list_any};
-ghost use Rattle.pd_model.specs.Variables.{is_variable, atom_names, cond_names, effect_names};
+ghost use Rattle.pd_model.specs.own.Variables.{is_variable, atom_names, cond_names, effect_names};
 
 use crate::{Cond, Effect, Pattern, Term};
 

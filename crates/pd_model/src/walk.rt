@@ -1,8 +1,8 @@
 // The walk in depth through the tree of types.
 ghost use Rattle.std.specs.Prelude.{◌≡◌, ◌<◌, ◌^◌, ◌+◌, ℕ, List, IfOk, IsTrue, false, length, slice_index};
 ghost use Rattle.pd_model.specs.Types.{parents_of};
-ghost use Rattle.pd_model.specs.TypeTree.{IsTypeTree};
-ghost use Rattle.pd_model.specs.Walk.{AreRooted, AreChains, IsWalk, to_do};
+ghost use Rattle.pd_model.specs.own.TypeTree.{IsTypeTree};
+ghost use Rattle.pd_model.specs.own.Walk.{AreRooted, AreChains, IsWalk, to_do};
 
 use crate::{Memory, TypeDecl};
 use std::alloc::Global;

@@ -16,8 +16,8 @@ use Rattle.pd_plan.specs.declared.lists.WordList.{WordList}
 use Rattle.pd_plan.specs.Fault.{Fault, syntax, unknown, arity, mistyped}
 use Rattle.pd_plan.specs.declared.fault.PlanFault.{PlanFault}
 use Rattle.pd_words.specs.First.{◌>>=◌, found, wants, after}
-use Rattle.pd_plan.specs.Answers.{Gives}
-use Rattle.pd_words.proofs.Sound.{bind_ok, wants_ok, found_ok, ok_is}
+use Rattle.pd_plan.specs.own.Answers.{Gives}
+use Rattle.pd_words.proofs.published.Sound.{bind_ok, wants_ok, found_ok, ok_is}
 use Rattle.pd_plan.proofs.Steps.{after-one}
 use Rattle.pd_plan.specs.Tokens.{Token, opening, closing, word, wrong, sign, joined, tokens}
 use Rattle.pd_plan.specs.WordLists.{word_list, lists, list_on, word_lists}

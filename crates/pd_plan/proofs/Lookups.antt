@@ -4,7 +4,7 @@ use Rattle.std.specs.Prelude.{option_map, slice_index, IfSome}
 use Rattle.std.specs.Str.{bytes_eq}
 use Rattle.std.proofs.lemmas.List.{take_more, length-map, length-take-le}
 use Rattle.pd_words.specs.Names.{number_of, or_else}
-use Rattle.pd_words.proofs.NameLemmas.{number_push, number_below}
+use Rattle.pd_words.proofs.published.NameLemmas.{number_push, number_below}
 
 index_first : (ns : List ℕ) (n k : ℕ) → k < length ns → slice_index (ns ++ n ∷ []) k ≡ slice_index ns k
 index_first (m ∷ ms) n zero h = refl

@@ -8,7 +8,7 @@ use Rattle.std.proofs.lemmas.List.{length-map}
 use Rattle.std.proofs.lemmas.List.Concat.{flat_map-cons}
 use Rattle.std.proofs.lemmas.Bool.Decides.{nat_tests}
 use Rattle.std.proofs.lemmas.Slice.Eq.{bytes_eq-Decides}
-use Rattle.report_lines.proofs.Entries.{line-append}
+use Rattle.report_lines.proofs.published.Entries.{line-append}
 use Rattle.pd_sexp.specs.Bytes.{open_paren, semicolon, line_feed, is_letter, lowered}
 use Rattle.pd_sexp.specs.Tree.{list, word, trees_of}
 use Rattle.pd_sexp.specs.File.{IsGap, IsComment, StopsWord, IsTree, AreItems}
@@ -24,10 +24,10 @@ use Rattle.pd_words.specs.Names.{number_of}
 use Rattle.pd_words.specs.Typed.{named}
 use Rattle.pd_words.specs.declared.named.Named.{Named}
 use Rattle.pd_plan.specs.PlanFile.{argument, arguments, call_from}
-use Rattle.pd_plan.specs.Spells.{tree_of_word, SpellsFrom}
+use Rattle.pd_plan.specs.own.Spells.{tree_of_word, SpellsFrom}
 use Rattle.pd_plan.specs.PlanText.{is_line, SpellsAnywhere}
-use Rattle.pd_model.proofs.Walks.{fits_below}
-use Rattle.pd_sexp.proofs.Whole.{choice}
+use Rattle.pd_model.proofs.published.Walks.{fits_below}
+use Rattle.pd_sexp.proofs.published.Whole.{choice}
 
 -- ---- gaps in a row
 

@@ -16,8 +16,8 @@ use Rattle.pd_words.specs.First.{◌>>=◌}
 use Rattle.pd_plan.specs.Tokens.{Token, word, sign, joined, tokens}
 use Rattle.pd_plan.specs.WordLists.{word_list, lists, list_on}
 use Rattle.pd_plan.specs.PlanFile.{call_from, calls_of, plan_file}
-use Rattle.pd_plan.specs.Spells.{tree_of_word, SpellsFrom, Spells}
-use Rattle.pd_sexp.proofs.Whole.{choice, stops-letter, listed_parts, listed_length}
+use Rattle.pd_plan.specs.own.Spells.{tree_of_word, SpellsFrom, Spells}
+use Rattle.pd_sexp.proofs.published.Whole.{choice, stops-letter, listed_parts, listed_length}
 use Rattle.pd_plan.proofs.Steps.{letter_tokens, goes_on, ends}
 
 -- the tokens of bytes that begin outside a comment

@@ -1,11 +1,11 @@
 -- The bytes one after another lead to what the tokens of all of them say.
-use Rattle.std.proofs.Common.{◌≡◌, ℕ, ◌+◌, ◌<◌, Bool, true, false, cond, List, [], ◌∷◌, ◌++◌, length, Result, Ok, Err, Option, Some, None, refl, sym, ap, ◌∙◌, append_assoc, append-nil, arith}
+use Rattle.std.proofs.Common.{◌≡◌, ℕ, ◌+◌, ◌<◌, Bool, true, false, cond, List, [], ◌∷◌, ◌++◌, length, Result, Ok, Err, Option, Some, None, refl, sym, ap, ◌∙◌, append_assoc, arith}
 use Rattle.std.specs.Prelude.{◌==◌, drop, slice_index}
 use Rattle.std.proofs.lemmas.Bool.{eqb-true, eq-eqb}
 use Rattle.std.proofs.lemmas.List.{drop_more}
 use Rattle.pd_sexp.specs.Bytes.{open_paren, close_paren, semicolon, line_feed, is_blank, is_letter, lowered}
 use Rattle.pd_sexp.specs.Fault.{uncommented, comment_blanked}
-use Rattle.pd_sexp.proofs.Bytes.{letter-blank, letter-semicolon}
+use Rattle.pd_sexp.proofs.published.Bytes.{letter-blank, letter-semicolon}
 use Rattle.pd_words.specs.Typed.{named}
 use Rattle.pd_words.specs.declared.named.Named.{Named}
 use Rattle.pd_plan.specs.declared.lists.WordList.{WordList}
@@ -13,8 +13,8 @@ use Rattle.pd_plan.specs.Fault.{Fault, syntax}
 use Rattle.pd_words.specs.First.{◌>>=◌, after, FailsWith}
 use Rattle.pd_plan.specs.Tokens.{Token, opening, closing, word, wrong, sign, joined, tokens}
 use Rattle.pd_plan.specs.WordLists.{word_list, lists, list_on, word_lists}
-use Rattle.pd_plan.specs.Progress as at
-use Rattle.pd_plan.specs.Progress.{State, Place, between, inside, closed, step, finished, from_place, answer}
+use Rattle.pd_plan.specs.own.Progress as at
+use Rattle.pd_plan.specs.own.Progress.{State, Place, between, inside, closed, step, from_place, answer}
 
 -- ---- tests
 
@@ -177,14 +177,6 @@ one_byte end (at.gap done place) o b bs = outside_is end done o b bs place
 one_byte end (at.comment done place) o b bs = in_comment end done o b bs place (b == line_feed) refl
 one_byte end (at.word done start words first letters) o b bs = in_word end done o b bs start words first letters (is_letter b) refl
 
--- no byte more
-pub no_byte : (end : ℕ) (s : State) (o : ℕ) → answer end s o [] ≡ finished s end
-no_byte end (at.gap done between) o = rw (append-nil done) refl
-no_byte end (at.gap done (inside start words)) o = refl
-no_byte end (at.comment done between) o = rw (append-nil done) refl
-no_byte end (at.comment done (inside start words)) o = refl
-no_byte end (at.word done start words first letters) o = refl
-
 -- ---- the loop over the bytes
 
 -- what is left of the bytes leads to the lists of all of them
@@ -201,6 +193,3 @@ module _ (bytes : List ℕ) (o : ℕ) (s : State) (reached : Reached bytes o s) 
   pub fails_there : (fault : Option Fault) → o < length bytes → FailsWith fault (step s o (slice_index bytes o)) → FailsWith fault (word_lists bytes)
   fails_there (Some fault) within is = sym (rw is at (next_byte within))
   fails_there None within is = tt
-
-  pub at_end : drop o bytes ≡ [] → finished s (length bytes) ≡ word_lists bytes
-  at_end none = sym (no_byte (length bytes) s o) ∙ ap (answer (length bytes) s o) (sym none) ∙ reached

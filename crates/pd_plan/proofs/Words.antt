@@ -3,12 +3,12 @@ use Rattle.std.proofs.Common.{◌≡◌, ◌==◌, ℕ, Bool, true, false, if◌
 use Rattle.pd_sexp.specs.Bytes.{is_letter, lowered, semicolon}
 use Rattle.pd_sexp.specs.Lexer as lexing
 use Rattle.pd_sexp.specs.declared.lexer.Lexed.TheVariants.{Ended}
-use Rattle.pd_sexp.proofs.WordEnds.{by_token, by_none, ended}
+use Rattle.pd_sexp.proofs.published.WordEnds.{by_token, by_none, ended}
 use Rattle.pd_words.specs.Typed.{named}
 use Rattle.pd_words.specs.declared.named.Named.{Named}
 use Rattle.pd_plan.specs.Fault.{Fault}
-use Rattle.pd_plan.specs.Progress as at
-use Rattle.pd_plan.specs.Reader.{place_of, state_from}
+use Rattle.pd_plan.specs.own.Progress as at
+use Rattle.pd_plan.specs.own.Reader.{place_of, state_from}
 use Rattle.pd_plan.specs.declared.lists.WordList.{WordList}
 use Rattle.pd_plan.specs.declared.reader.Place.{Place}
 

@@ -1,12 +1,7 @@
 pub mod Fault
-pub mod Answers
-pub mod Tokens
-pub mod WordLists
-pub mod Names
 pub mod PlanFile
-pub mod Spells
-pub mod Progress
-pub mod Reader
-pub mod Depot
 pub mod PlanText
 pub mod Laws
+pub mod Tokens
+pub mod WordLists
+pub mod own

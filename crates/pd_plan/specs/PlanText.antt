@@ -3,7 +3,7 @@ use Rattle.std.specs.Prelude.{ℕ, List}
 pub use Rattle.report_lines.specs.Lines.{is_line}
 use Rattle.pd_model.specs.declared.calls.Call.{Call}
 use Rattle.pd_model.specs.declared.parts.Parts.{Parts}
-use Rattle.pd_plan.specs.Spells.{SpellsFrom}
+use Rattle.pd_plan.specs.own.Spells.{SpellsFrom}
 
 -- the bytes are gaps and lists that spell these calls, wherever they begin
 abbrev pub SpellsAnywhere : Parts → List ℕ → List Call → Type 0

@@ -2,8 +2,8 @@
 ghost use Rattle.std.specs.Prelude.{◌≡◌, ℕ, List};
 ghost use Rattle.pd_model.specs.Names.{object_names, schema_names};
 ghost use Rattle.pd_words.specs.Names.{number_of};
-ghost use Rattle.pd_plan.specs.Answers.{Gives};
-ghost use Rattle.pd_plan.specs.Names.{looked_up};
+ghost use Rattle.pd_plan.specs.own.Answers.{Gives};
+ghost use Rattle.pd_plan.specs.own.Names.{looked_up};
 ghost use Rattle.pd_plan.specs.PlanFile as plans;
 
 use crate::PlanFault;

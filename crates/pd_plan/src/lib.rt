@@ -9,7 +9,7 @@
 ghost use Rattle.std.specs.Prelude.{◌≤◌, ◌<◌, ◌^◌, ℕ, IfOk, IsTrue, length};
 ghost use Rattle.std.specs.List.{list_all};
 ghost use Rattle.pd_model.specs.Fits.{is_call};
-ghost use Rattle.pd_plan.specs.Answers.{Gives};
+ghost use Rattle.pd_plan.specs.own.Answers.{Gives};
 ghost use Rattle.pd_plan.specs.PlanFile.{plan_file};
 
 mod calls;

@@ -1,6 +1,6 @@
 // The lists of words that a plan file is.
 ghost use Rattle.std.specs.Prelude.{◌≡◌, ◌≤◌, length};
-ghost use Rattle.pd_plan.specs.Answers.{GivesAs};
+ghost use Rattle.pd_plan.specs.own.Answers.{GivesAs};
 ghost use Rattle.pd_plan.specs.WordLists.{word_lists};
 
 use crate::PlanFault;

@@ -21,7 +21,7 @@ impl NameNumbers {
     ghost use Rattle.std.specs.Prelude.{◌≡◌, ◌<◌, ◌^◌, ℕ, List, IfOk, IfErr, length, cond, Some, None};
     ghost use Rattle.std.specs.Str.{bytes_eq};
     ghost use Rattle.pd_words.specs.Names.{number_of, or_else};
-    ghost use Rattle.pd_plan.specs.Names.{looked_up};
+    ghost use Rattle.pd_plan.specs.own.Names.{looked_up};
     ghost use Rattle.pd_plan.specs.declared.fault.PlanFault.TheVariants.{Memory};
     ghost use Rattle.pd_model.specs.Names.{object_names, schema_names};
 

@@ -32,9 +32,9 @@ impl Reader {
     ghost use Rattle.pd_words.specs.Typed.{named};
     ghost use Rattle.pd_plan.specs.declared.fault.PlanFault.TheVariants.{Memory};
     ghost use Rattle.pd_sexp.specs.Lexer as lexing;
-    ghost use Rattle.pd_plan.specs.Answers.{GivesAs};
-    ghost use Rattle.pd_plan.specs.Progress as reading;
-    ghost use Rattle.pd_plan.specs.Reader.{state_of, place_of, Steps};
+    ghost use Rattle.pd_plan.specs.own.Answers.{GivesAs};
+    ghost use Rattle.pd_plan.specs.own.Progress as reading;
+    ghost use Rattle.pd_plan.specs.own.Reader.{state_of, place_of, Steps};
     ghost use Rattle.pd_plan.specs.declared.reader.Place.TheVariants as places;
 
     /// Before the first byte.

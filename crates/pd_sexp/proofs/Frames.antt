@@ -2,7 +2,7 @@
 use Rattle.std.proofs.Common.{◌≡◌, List, [], ◌∷◌, ◌++◌, map, reverse, length, ap, ◌∙◌}
 use Rattle.std.proofs.lemmas.List.{map-append, reverse-append, length-reverse, length-map}
 use Rattle.pd_sexp.specs.declared.reader.Frame.{Frame}
-use Rattle.pd_sexp.specs.Reader.{frame_of, outer_of}
+use Rattle.pd_sexp.specs.own.Reader.{frame_of, outer_of}
 
 pub outer_of-push : (frames : List Frame) (frame : Frame) → outer_of (frames ++ frame ∷ []) ≡ frame_of frame ∷ outer_of frames
 outer_of-push frames frame = ap reverse (map-append frame_of frames (frame ∷ [])) ∙ reverse-append (map frame_of frames) (frame_of frame ∷ [])

@@ -3,7 +3,7 @@ use Rattle.std.proofs.Common.{◌≡◌, ◌≤◌, ◌<◌, ℕ, List, length, 
 use Rattle.std.specs.Prelude.{slice_index, IfOk}
 use Rattle.pd_sexp.specs.Fault.{IsFault, Reads, syntax, deep}
 use Rattle.pd_sexp.specs.Progress as reading
-use Rattle.pd_sexp.specs.Reader.{Steps, Ends}
+use Rattle.pd_sexp.specs.own.Reader.{Steps, Ends}
 use Rattle.pd_sexp.specs.View.{view}
 use Rattle.pd_sexp.specs.declared.tree.Tree.{Tree}
 use Rattle.pd_sexp.specs.declared.tree.TreeError.{TreeError}

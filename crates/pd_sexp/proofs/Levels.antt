@@ -9,8 +9,8 @@ use Rattle.pd_sexp.specs.Tree.{word}
 use Rattle.pd_sexp.specs.Fault.{uncommented, comment_blanked, level_after}
 use Rattle.pd_sexp.specs.Progress as at
 use Rattle.pd_sexp.specs.Progress.{Frame, Place, State, fresh, with_item, tree_of, closed, step, run, then_run, level_of, level_in, in_comment}
-use Rattle.pd_sexp.proofs.Bytes.{letter-blank, letter-semicolon, letter-open, letter-close, blank-semicolon, blank-open, blank-close}
-use Rattle.pd_sexp.proofs.Whole.{blank-step, semicolon-step, letter-step}
+use Rattle.pd_sexp.proofs.published.Bytes.{letter-blank, letter-semicolon, letter-open, letter-close, blank-semicolon, blank-open, blank-close}
+use Rattle.pd_sexp.proofs.published.Whole.{blank-step, semicolon-step, letter-step}
 use Rattle.pd_sexp.proofs.Parts.{Kind, blank, opens_comment, opens, closes, letter, other, kind_of, other-step}
 
 -- the bytes without comments, from inside a comment or not

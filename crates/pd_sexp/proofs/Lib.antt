@@ -1,12 +1,9 @@
-pub mod Views
-pub mod Bytes
-pub mod Whole
 pub mod Parts
 pub mod Viable
 pub mod Levels
 pub mod Verdicts
 pub mod Frames
 pub mod Judged
-pub mod WordEnds
 pub mod Words
 pub mod WordLaw
+pub mod published

@@ -8,8 +8,8 @@ use Rattle.pd_sexp.specs.Tree.{Tree, word, list, Trees, no_trees, and_tree}
 use Rattle.pd_sexp.specs.File.{IsGap, IsComment, StopsWord, StopsTree, IsTree, AreItems, IsFile}
 use Rattle.pd_sexp.specs.Progress as at
 use Rattle.pd_sexp.specs.Progress.{Frame, Place, State, fresh, with_item, tree_of, closed, step, run, then_run, finished, tree_after}
-use Rattle.pd_sexp.proofs.Bytes.{blank-semicolon}
-use Rattle.pd_sexp.proofs.Whole.{with_items, trees_of-list_of, word-stops, blank-step, semicolon-step, letter-step, with_items-more, with_items-none}
+use Rattle.pd_sexp.proofs.published.Bytes.{blank-semicolon}
+use Rattle.pd_sexp.proofs.published.Whole.{with_items, trees_of-list_of, word-stops, blank-step, semicolon-step, letter-step, with_items-more, with_items-none}
 
 -- items that begin with a gap, or with the rest of a comment
 abbrev StartsGap : Bool → List ℕ → Type 0

@@ -11,7 +11,7 @@ use Rattle.pd_sexp.specs.Fault as fault
 use Rattle.pd_sexp.specs.Fault.{uncommented, level_after, IsViable, OpensTooDeep, IsLongestViable, IsFault, Reads}
 use Rattle.pd_sexp.specs.Progress as at
 use Rattle.pd_sexp.specs.Progress.{State, step, run, then_run, finished, tree_after, level_of, in_comment, IsTooDeep}
-use Rattle.pd_sexp.proofs.Whole.{run-append, file-run}
+use Rattle.pd_sexp.proofs.published.Whole.{run-append, file-run}
 use Rattle.pd_sexp.proofs.Parts.{run-file}
 use Rattle.pd_sexp.proofs.Viable.{viable, not_viable, viable_front}
 use Rattle.pd_sexp.proofs.Levels.{level_is, opens_here, opens_only}

@@ -5,7 +5,7 @@ use Rattle.pd_sexp.specs.Tree.{Tree, word}
 use Rattle.pd_sexp.specs.Fault.{IsViable}
 use Rattle.pd_sexp.specs.Progress as at
 use Rattle.pd_sexp.specs.Progress.{Frame, Place, State, fresh, with_item, tree_of, closed, step, run, then_run, finished, tree_after}
-use Rattle.pd_sexp.proofs.Whole.{run-append, file-run}
+use Rattle.pd_sexp.proofs.published.Whole.{run-append, file-run}
 use Rattle.pd_sexp.proofs.Parts.{run-file}
 
 record Completes (state : State) (offset : ℕ) : Type 0 where

@@ -4,12 +4,12 @@ use Rattle.pd_sexp.specs.Bytes.{is_letter, lowered, semicolon}
 use Rattle.pd_sexp.specs.Tree as defs
 use Rattle.pd_sexp.specs.Lexer as lexing
 use Rattle.pd_sexp.specs.Progress as at
-use Rattle.pd_sexp.specs.Reader.{place_of, state_from, Steps, TakesToken}
+use Rattle.pd_sexp.specs.own.Reader.{place_of, state_from, Steps, TakesToken}
 use Rattle.pd_sexp.specs.declared.lexer.Lexed.TheVariants.{Ended}
 use Rattle.pd_sexp.specs.declared.reader.Place.{Place}
 use Rattle.pd_sexp.specs.declared.tree.TreeError.{TreeError}
 use Rattle.pd_sexp.specs.declared.tree.TreeError.TheVariants.{Syntax, Deep, Memory}
-use Rattle.pd_sexp.proofs.WordEnds.{by_token, by_none, ended}
+use Rattle.pd_sexp.proofs.published.WordEnds.{by_token, by_none, ended}
 
 module _ (frame : at.Frame) (outer : List at.Frame) (start : ℕ) (text : List ℕ) (o b : ℕ) where
   abbrev inside : at.Place

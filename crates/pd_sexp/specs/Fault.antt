@@ -4,6 +4,7 @@ use Rattle.pd_sexp.specs.Bytes.{open_paren, close_paren, semicolon, line_feed}
 use Rattle.pd_sexp.specs.Tree.{Tree}
 use Rattle.pd_sexp.specs.File.{IsFile, max_levels}
 
+-- what is wrong first, with the offset of the byte at which it is told
 pub data Fault : Type 0 where
   syntax : ℕ → Fault
   deep : ℕ → Fault
@@ -18,6 +19,7 @@ abbrev mutual
   uncommented [] = []
   uncommented (b ∷ bs) = if b == semicolon then 32 ∷ comment_blanked bs else b ∷ uncommented bs
 
+  -- the same of bytes that begin inside a comment
   pub comment_blanked : List ℕ → List ℕ
   comment_blanked [] = []
   comment_blanked (b ∷ bs) = if b == line_feed then b ∷ uncommented bs else 32 ∷ comment_blanked bs

@@ -10,6 +10,7 @@ abbrev mutual
   IsGap at_end [] = Unit {0}
   IsGap at_end (b ∷ bs) = MatchBool (b == semicolon) (IsComment at_end bs) (IsTrue (is_blank b) × IsGap at_end bs)
 
+  -- the bytes are the rest of a comment, and then a gap
   pub IsComment : Bool → List ℕ → Type 0
   IsComment at_end [] = IsTrue at_end
   IsComment at_end (b ∷ bs) = MatchBool (b == line_feed) (IsGap at_end bs) (IsComment at_end bs)
@@ -51,5 +52,6 @@ pub record IsFile (bytes : List ℕ) (tree : Tree) : Type 0 where
   pub one_list : (at : ℕ) × (items : Trees) × (tree ≡ list at items)
   pub is_tree : IsTree tree (length before) middle
 
+-- how many lists may stand in one another
 abbrev pub max_levels : ℕ
 max_levels = 64

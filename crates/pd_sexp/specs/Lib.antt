@@ -6,5 +6,4 @@ pub mod Word
 pub mod View
 pub mod Progress
 pub mod Lexer
-pub mod Place
-pub mod Reader
+pub mod own

@@ -21,15 +21,19 @@ pub data State : Type 0 where
   comment : Place → State
   word : Frame → List Frame → ℕ → List ℕ → State
 
+-- a list that opens at this offset
 abbrev pub fresh : ℕ → Frame
 fresh offset = record { at = offset; items = [] }
 
+-- an open list with one item more
 abbrev pub with_item : Frame → defs.Tree → Frame
 with_item frame tree = record { at = frame.at; items = frame.items ++ tree ∷ [] }
 
+-- the tree of a list that closes
 abbrev pub tree_of : Frame → defs.Tree
 tree_of frame = defs.list frame.at (defs.trees_of frame.items)
 
+-- where a reader stands once the innermost list is closed
 abbrev pub closed : Frame → List Frame → Place
 closed frame [] = after frame
 closed frame (parent ∷ outer) = inside (with_item parent (tree_of frame)) outer
@@ -44,6 +48,7 @@ token (inside frame outer) offset b =
     else None
 token (after frame) offset b = None
 
+-- where a reader stands after a byte outside words and comments, if the byte may stand there
 abbrev pub outside : Place → ℕ → ℕ → Option State
 outside place offset b =
     if is_blank b then Some (gap place)
@@ -58,6 +63,7 @@ step (word frame outer start letters) offset b =
     if is_letter b then Some (word frame outer start (letters ++ lowered b ∷ []))
     else outside (inside (with_item frame (defs.word start letters)) outer) offset b
 
+-- a step after one that may have failed
 abbrev pub then_run : (State → Option State) → Option State → Option State
 then_run rest None = None
 then_run rest (Some state) = rest state
@@ -73,6 +79,7 @@ finished (gap (after frame)) = Some (tree_of frame)
 finished (comment (after frame)) = Some (tree_of frame)
 finished _ = None
 
+-- the tree of a file that ends in this state
 abbrev pub tree_after : Option State → Option defs.Tree
 tree_after None = None
 tree_after (Some state) = finished state
@@ -83,11 +90,13 @@ level_in before = 0
 level_in (inside frame outer) = suc (length outer)
 level_in (after frame) = 0
 
+-- how many lists are open
 abbrev pub level_of : State → ℕ
 level_of (gap place) = level_in place
 level_of (comment place) = level_in place
 level_of (word frame outer start letters) = suc (length outer)
 
+-- the state is within a comment
 abbrev pub in_comment : State → Bool
 in_comment (comment place) = true
 in_comment _ = false

@@ -19,6 +19,7 @@ abbrev mutual
   has_words (word at text) = is_word text
   has_words (list at items) = have_words items
 
+  -- each word of some trees is one
   pub have_words : Trees → Bool
   have_words no_trees = true
   have_words (and_tree tree trees) = has_words tree && have_words trees

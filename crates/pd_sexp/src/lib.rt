@@ -4,6 +4,9 @@
 //! run of the bytes 33 to 126 other than parentheses and semicolons, read in small letters. Lists stand
 //! at most 64 deep. `specs/File.antt` says which bytes are a file and of which tree, `specs/Fault.antt`
 //! which fault other bytes have.
+//!
+//! `Lexer` tells blanks, comments and words apart, one call a byte; which tokens may stand where is for its reader to say. `pd_plan` reads
+//! with it too.
 #![tactic(auto)]
 
 ghost use Rattle.std.specs.Prelude.{◌≡◌, ◌≤◌, ℕ, IfOk, IsTrue, length};

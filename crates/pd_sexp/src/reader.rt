@@ -1,7 +1,7 @@
 //! The reader: one pass over the bytes, with the open lists on a stack of its own, so that no file can
 //! exhaust the program's stack.
 ghost use Rattle.std.specs.Prelude.{◌≡◌, IsTrue, length};
-ghost use Rattle.pd_sexp.specs.Place.{is_before};
+ghost use Rattle.pd_sexp.specs.own.Place.{is_before};
 
 use crate::kinds::is_letter;
 use crate::lexer::{Lexed, Lexer};
@@ -21,11 +21,11 @@ pub struct Frame {
 
 impl Frame {
     ghost use Rattle.std.specs.Prelude.{◌≡◌};
-    ghost use Rattle.pd_sexp.specs.Reader.{frame_of};
+    ghost use Rattle.pd_sexp.specs.own.Reader.{frame_of};
     ghost use Rattle.pd_sexp.specs.Progress.{tree_of};
     ghost use Rattle.pd_sexp.specs.View.{view};
 
-    #[tactic(auto, using(crate::proofs::Views::by_variant))]
+    #[tactic(auto, using(crate::proofs::published::Views::by_variant))]
     fn into_tree(self) -> Tree
         ensures { view result ≡ tree_of (frame_of self) }
     {
@@ -60,7 +60,7 @@ pub struct Reader {
 
 impl Reader {
     ghost use Rattle.std.specs.Prelude.{◌≡◌, ◌<◌, ◌≤◌, ◌+◌, ◌^◌, ◌++◌, ℕ, List, [], ◌∷◌, Bool, true, false, length, map, reverse, Option, Some, None, IfOk, IfErr, OnOk};
-    ghost use Rattle.pd_sexp.specs.Reader.{state_of, place_of, frame_of, outer_of, Steps, TakesToken, Ends};
+    ghost use Rattle.pd_sexp.specs.own.Reader.{state_of, place_of, frame_of, outer_of, Steps, TakesToken, Ends};
     ghost use Rattle.pd_sexp.specs.Progress as reading;
     ghost use Rattle.pd_sexp.specs.Tree as defs;
     ghost use Rattle.pd_sexp.specs.Bytes as bytes;

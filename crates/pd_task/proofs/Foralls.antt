@@ -2,7 +2,6 @@
 use Rattle.std.proofs.Common.{◌≡◌, ℕ, ◌-◌, List, [], ◌∷◌, ◌++◌, length, take, Result, Ok, Err, refl, sym, ap, ◌∙◌, arith, length-append}
 use Rattle.std.specs.Prelude.{OnOk, IsErrAnd}
 use Rattle.std.proofs.lemmas.List.{take-append-le}
-use Rattle.pd_words.specs.declared.keyword.Keyword.{Keyword}
 use Rattle.pd_sexp.specs.Tree as defs
 use Rattle.pd_model.specs.declared.conds.Cond.{Cond}
 use Rattle.pd_model.specs.declared.effects.Effect.{Effect}
@@ -16,8 +15,8 @@ use Rattle.pd_words.specs.Typed.{Variables, variable_list}
 use Rattle.pd_words.specs.First.{◌>>=◌, Fails, Gives, Leaves}
 use Rattle.pd_words.specs.Items.{no_more}
 use Rattle.pd_words.specs.Standing.{Standing}
-use Rattle.pd_task.specs.Scope.{site_of, opened}
-use Rattle.pd_task.specs.Effects.{Site, effect, simple, quantified, quantified_body}
+use Rattle.pd_task.specs.own.Scope.{site_of, opened}
+use Rattle.pd_task.specs.Effects.{Site, effect, quantified, quantified_body}
 use Rattle.pd_task.specs.declared.vocabulary.Vocabulary.{Vocabulary}
 use Rattle.pd_task.proofs.Ands.{handed_on}
 
@@ -48,10 +47,6 @@ module _ (types : List (List ℕ)) (vocabulary : Vocabulary) (scope : Standing) 
   pub enters : (items : defs.Trees) (next : Standing) (body : defs.Tree) (more : defs.Trees) → opened types scope at items ≡ Ok (next, body, more)
       → quantified types (site_of vocabulary scope cond) before at items ≡ quantified_body types (site_of vocabulary next cond) before at (defs.and_tree body more)
   enters items next body more is = opens items ∙ rw is refl
-
-  pub enter_fails : (items : defs.Trees) (e : ReadError) → Fails e (opened types scope at items) → Fails e (quantified types (site_of vocabulary scope cond) before at items)
-  enter_fails items errors.Memory is = tt
-  enter_fails items (errors.Fault f) is = opens items ∙ rw is refl
 
 -- ---- the effect is read
 
@@ -138,19 +133,3 @@ on_ok (Ok u) P h = h
 on_ok (Err e) P h = tt
 
 -- ---- other effects
-
-simple_at : (types : List (List ℕ)) (site : Site) (before : List Effect) (at : ℕ) (head : defs.Tree) (rest : defs.Trees) (k : Keyword) → head_of head ≡ k → (k ≡ heads.And → ⊥) → (k ≡ heads.Forall → ⊥)
-    → effect types site before (defs.list at (defs.and_tree head rest)) ≡ simple site before k at (defs.and_tree head rest)
-simple_at types site before at head rest heads.And is not_and not_forall = absurd (not_and refl)
-simple_at types site before at head rest heads.Forall is not_and not_forall = absurd (not_forall refl)
-simple_at types site before at head rest heads.Not is not_and not_forall = grind (arith, is)
-simple_at types site before at head rest heads.Equals is not_and not_forall = grind (arith, is)
-simple_at types site before at head rest heads.When is not_and not_forall = grind (arith, is)
-simple_at types site before at head rest heads.Other is not_and not_forall = grind (arith, is)
-simple_at types site before at head rest heads.Assignment is not_and not_forall = grind (arith, is)
-simple_at types site before at head rest heads.Free is not_and not_forall = grind (arith, is)
-
-pub simple_is : (types : List (List ℕ)) (site : Site) (before : List Effect) (at : ℕ) (head : defs.Tree) (rest : defs.Trees) (tree : defs.Tree) (k : Keyword)
-    → tree ≡ defs.list at (defs.and_tree head rest) → head_of head ≡ k → (k ≡ heads.And → ⊥) → (k ≡ heads.Forall → ⊥)
-    → effect types site before tree ≡ simple site before k at (defs.and_tree head rest)
-simple_is types site before at head rest tree k is head_is not_and not_forall = rw is (simple_at types site before at head rest k head_is not_and not_forall)

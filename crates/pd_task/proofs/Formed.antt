@@ -9,7 +9,7 @@ use Rattle.pd_model.specs.WellFormed.{are_below, is_cond, is_pattern, is_effect,
 use Rattle.pd_model.specs.declared.effects.Effect.{Effect}
 use Rattle.pd_model.specs.declared.schemas.Schema.{Schema}
 use Rattle.pd_model.specs.declared.parts.Parts.{Parts}
-use Rattle.pd_words.proofs.Sound.{ok_is, OfWords}
+use Rattle.pd_words.proofs.published.Sound.{ok_is, OfWords}
 use Rattle.pd_model.specs.Few.{is_few, few_effect, few_schema, few_parts}
 use Rattle.pd_task.specs.Reading.{DomainParts, domain_parts, problem_parts}
 use Rattle.pd_task.proofs.Lawful.{lawful_effect}

@@ -22,8 +22,8 @@ use Rattle.pd_words.specs.Names.{number_of, variable_number, or_else, is_among}
 use Rattle.pd_words.specs.Typed.{Variables, listed, variables, variable_list, admit_variable, give_kind, type_name, type_of, object}
 use Rattle.pd_words.specs.First.{◌>>=◌, found, every, each}
 use Rattle.pd_words.specs.Items.{no_more}
-use Rattle.pd_words.proofs.NameLemmas.{number_below, all_append, all_push}
-use Rattle.pd_words.proofs.Sound.{bind_ok, wants_ok, if_ok, typed_keeps, any_tree, any_trees}
+use Rattle.pd_words.proofs.published.NameLemmas.{number_below, all_append, all_push}
+use Rattle.pd_words.proofs.published.Sound.{bind_ok, wants_ok, if_ok, typed_keeps, any_tree, any_trees}
 use Rattle.pd_task.specs.Atoms.{Names, count, term, predicate, atom, one_of, two_of, literal, equality, denied, negation, and_one, condition, conditions}
 use Rattle.pd_task.specs.Effects.{Site, and_effect, removed, removal, literals, all_literals, conditional_body, conditional, under, simple, rest_of, effect, all_effects, quantified, quantified_body}
 
@@ -31,10 +31,6 @@ use Rattle.pd_task.specs.Effects.{Site, and_effect, removed, removal, literals, 
 
 abbrev pub Passes : {A : Type 0} → (A → Bool) → Result A Fault → Type 0
 Passes test read = IfOk read (λ x. test x ≡ true)
-
-pub anything : {A : Type 0} (read : Result A Fault) → IfOk read (λ _. Unit {0})
-anything (Ok x) = tt
-anything (Err e) = tt
 
 -- whatever the first step's value is
 pub bind_any : {A B : Type 0} (Q : B → Type 0) (read : Result A Fault) (next : A → Result B Fault) → ((x : A) → IfOk (next x) Q) → IfOk (read >>= next) Q

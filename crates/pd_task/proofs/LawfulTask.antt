@@ -26,9 +26,9 @@ use Rattle.pd_words.specs.Typed.{variable_list, type_of, object}
 use Rattle.pd_words.specs.Types.{types}
 use Rattle.pd_words.specs.First.{◌>>=◌, found, every, each}
 use Rattle.pd_words.specs.Items.{no_more, place_of, name_at}
-use Rattle.pd_words.proofs.NameLemmas.{number_below, number_among, names_push, all_push}
-use Rattle.pd_words.proofs.Sound.{bind_ok, wants_ok, typed_keeps, OfWords, AllOfWords, first_words, other_words}
-use Rattle.pd_words.proofs.TypeLemmas.{TypesLawful, types_sound}
+use Rattle.pd_words.proofs.published.NameLemmas.{number_below, number_among, names_push, all_push}
+use Rattle.pd_words.proofs.published.Sound.{bind_ok, wants_ok, typed_keeps, OfWords, AllOfWords, first_words, other_words}
+use Rattle.pd_words.proofs.published.TypeLemmas.{TypesLawful, types_sound}
 use Rattle.pd_task.specs.Atoms.{Names, count, one_of, condition, predicate}
 use Rattle.pd_task.specs.Effects.{Site, effect}
 use Rattle.pd_task.specs.Action.{Keys, no_keys, keys_from, value_of, schema, and_action}

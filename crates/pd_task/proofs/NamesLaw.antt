@@ -6,8 +6,8 @@ use Rattle.std.specs.Str.{bytes_eq}
 use Rattle.pd_sexp.specs.Tree.{Tree, word, list, Trees, no_trees, and_tree}
 use Rattle.pd_sexp.specs.Word.{is_word}
 use Rattle.pd_model.specs.Names.{predicate_names, schema_names, is_among, are_names}
-use Rattle.pd_model.specs.declared.memory.Which.{Which}
-use Rattle.pd_model.specs.declared.memory.Which.TheVariants.{Domain, Problem}
+use Rattle.pd_model.specs.declared.which.Which.{Which}
+use Rattle.pd_model.specs.declared.which.Which.TheVariants.{Domain, Problem}
 use Rattle.pd_model.specs.declared.predicates.Predicate.{Predicate}
 use Rattle.pd_model.specs.declared.schemas.Schema.{Schema}
 use Rattle.pd_words.specs.declared.fault.Fault.{Fault}
@@ -16,8 +16,8 @@ use Rattle.pd_words.specs.Words.{is_name, keyword}
 use Rattle.pd_words.specs.Typed.{variable_list, arity}
 use Rattle.pd_words.specs.First.{each}
 use Rattle.pd_words.specs.Items.{place_of, name_at}
-use Rattle.pd_words.proofs.NameLemmas.{names_push}
-use Rattle.pd_words.proofs.Sound.{bind_ok, wants_ok, OfWords, AllOfWords, first_words, other_words}
+use Rattle.pd_words.proofs.published.NameLemmas.{names_push}
+use Rattle.pd_words.proofs.published.Sound.{bind_ok, wants_ok, OfWords, AllOfWords, first_words, other_words}
 use Rattle.pd_task.specs.Atoms.{Names, condition}
 use Rattle.pd_task.specs.Effects.{effect}
 use Rattle.pd_task.specs.Action.{Keys, no_keys, keys_from, value_of, schema, and_action}

@@ -4,7 +4,7 @@ use Rattle.pd_sexp.specs.Tree as defs
 use Rattle.pd_sexp.specs.declared.tree.Tree.{Tree}
 use Rattle.pd_sexp.specs.View.{view, views}
 use Rattle.pd_words.specs.Standing.{Standing}
-use Rattle.pd_task.specs.Scope.{opened}
+use Rattle.pd_task.specs.own.Scope.{opened}
 use Rattle.pd_task.proofs.Foralls.{is_opened}
 
 abbrev mutual

@@ -56,6 +56,7 @@ abbrev mutual
     _ ← wants (is_none (value_at k before)) (Duplicate (place_of first))
     value_next list_at before k rest
 
+  -- the keys after these, where the value of a key is due
   pub value_next : ℕ → Keys → Key → Trees → Result Keys Fault
   value_next list_at before k no_trees = Err (Shape list_at)
   value_next list_at before k (and_tree value rest) = keys_from list_at (with_value k value before) rest

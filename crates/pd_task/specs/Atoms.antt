@@ -108,6 +108,7 @@ abbrev mutual
     | _ ↦ Err (Unsupported at)
   ]
 
+  -- the literals of several conditions, after these
   pub conditions : Names → List Cond → Trees → Result (List Cond) Fault
   conditions names before no_trees = Ok before
   conditions names before (and_tree t ts) = do

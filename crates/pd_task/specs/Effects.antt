@@ -55,6 +55,7 @@ abbrev mutual
     | _ ↦ Err (Unsupported at)
   ]
 
+  -- the effects of several, after these
   pub all_literals : Site → List Effect → Trees → Result (List Effect) Fault
   all_literals site before no_trees = Ok before
   all_literals site before (and_tree t ts) = do
@@ -101,6 +102,7 @@ simple site before _ at items = Err (Unsupported at)
 -- `()`, `and` round effects, an atom, `not` round an atom, `forall` or `when`.
 module _ (types : List (List ℕ)) where
   abbrev mutual
+    -- the effects of one effect, after these
     pub effect : Site → List Effect → Tree → Result (List Effect) Fault
     effect site before (word at text) = Err (Shape at)
     effect site before (list at no_trees) = Ok before
@@ -110,6 +112,7 @@ module _ (types : List (List ℕ)) where
       | _ ↦ simple site before (head_of head) at (and_tree head rest)
     ]
 
+    -- the effects of several, after these
     pub all_effects : Site → List Effect → Trees → Result (List Effect) Fault
     all_effects site before no_trees = Ok before
     all_effects site before (and_tree t ts) = do
@@ -123,6 +126,7 @@ module _ (types : List (List ℕ)) where
       new ← variable_list types variables
       quantified_body (under site new) before at rest
 
+    -- the effect after the typed list of a `forall`
     pub quantified_body : Site → List Effect → ℕ → Trees → Result (List Effect) Fault
     quantified_body site before at no_trees = Err (Shape at)
     quantified_body site before at (and_tree body more) = do

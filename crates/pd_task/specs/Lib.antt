@@ -1,11 +1,6 @@
-pub mod Atoms
-pub mod Effects
-pub mod Action
-pub mod Declarations
 pub mod Reading
-pub mod Scope
-pub mod Found
-pub mod Headed
-pub mod KeyValues
-pub mod Tables
-pub mod Told
+pub mod Action
+pub mod Atoms
+pub mod Declarations
+pub mod Effects
+pub mod own

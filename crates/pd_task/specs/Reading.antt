@@ -3,8 +3,8 @@
 -- objects, initial state and goal.
 use Rattle.std.specs.Prelude.{ℕ, List, [], Option, Some, None, Result, Ok, Err, codes}
 use Rattle.pd_sexp.specs.Tree.{Tree, Trees, no_trees, and_tree}
-use Rattle.pd_model.specs.declared.memory.Which.{Which}
-use Rattle.pd_model.specs.declared.memory.Which.TheVariants.{Domain, Problem}
+use Rattle.pd_model.specs.declared.which.Which.{Which}
+use Rattle.pd_model.specs.declared.which.Which.TheVariants.{Domain, Problem}
 use Rattle.pd_model.specs.declared.types.TypeDecl.{TypeDecl}
 use Rattle.pd_model.specs.declared.objects.ObjectDecl.{ObjectDecl}
 use Rattle.pd_model.specs.declared.predicates.Predicate.{Predicate}

@@ -6,8 +6,8 @@ ghost use Rattle.pd_words.specs.First.{Gives, GivesAs};
 ghost use Rattle.pd_task.specs.Atoms.{condition};
 ghost use Rattle.pd_task.specs.Effects as effects;
 ghost use Rattle.pd_task.specs.Action as action;
-ghost use Rattle.pd_task.specs.Scope.{names_with, site_of};
-ghost use Rattle.pd_task.specs.KeyValues.{keys_of};
+ghost use Rattle.pd_task.specs.own.Scope.{names_with, site_of};
+ghost use Rattle.pd_task.specs.own.KeyValues.{keys_of};
 
 use crate::cond::read_cond;
 use crate::effects::read_effect;

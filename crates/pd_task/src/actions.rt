@@ -7,7 +7,7 @@ ghost use Rattle.pd_words.specs.declared.fault.ReadError.TheVariants as errors;
 ghost use Rattle.pd_words.specs.First.{Leaves, GivesAs, each};
 ghost use Rattle.pd_task.specs.Action as action;
 ghost use Rattle.pd_task.specs.Reading as reading;
-ghost use Rattle.pd_task.specs.Scope.{names_with};
+ghost use Rattle.pd_task.specs.own.Scope.{names_with};
 
 use crate::action::{read_keys, read_schema};
 use crate::vocabulary::Vocabulary;

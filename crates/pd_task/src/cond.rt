@@ -3,7 +3,7 @@ ghost use Rattle.std.specs.Prelude.{◌≡◌, ◌++◌, ◌∷◌, [], option_m
 ghost use Rattle.pd_sexp.specs.View.{view, views};
 ghost use Rattle.pd_words.specs.First.{Gives, Leaves};
 ghost use Rattle.pd_task.specs.Atoms as atoms;
-ghost use Rattle.pd_task.specs.Scope.{names_with};
+ghost use Rattle.pd_task.specs.own.Scope.{names_with};
 
 use crate::headed::read_headed;
 use crate::terms::{read_atom, read_term};

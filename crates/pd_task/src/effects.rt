@@ -4,7 +4,7 @@ ghost use Rattle.pd_sexp.specs.View.{view, views};
 ghost use Rattle.pd_words.specs.First.{GivesAs, Leaves};
 ghost use Rattle.pd_task.specs.Atoms.{condition};
 ghost use Rattle.pd_task.specs.Effects as effects;
-ghost use Rattle.pd_task.specs.Scope.{site_of, opened};
+ghost use Rattle.pd_task.specs.own.Scope.{site_of, opened};
 
 use crate::cond::{one, read_cond};
 use crate::found::Found;

@@ -20,7 +20,7 @@ pub struct Found {
 }
 
 impl Model for Found {
-    ghost use Rattle.pd_task.specs.Found.{Found};
+    ghost use Rattle.pd_task.specs.own.Found.{Found};
     ghost use Rattle.pd_model.specs.Sameness.{IsSame, last_under, no_under};
 
     ghost Value = { Found };

@@ -1,7 +1,7 @@
 // Lists by their first item.
 ghost use Rattle.std.specs.Prelude.{IfOk, IfErr, MatchOption};
 ghost use Rattle.pd_sexp.specs.View.{view};
-ghost use Rattle.pd_task.specs.Headed.{IsWord, IsEmpty, IsHeaded};
+ghost use Rattle.pd_task.specs.own.Headed.{IsWord, IsEmpty, IsHeaded};
 
 use pd_sexp::Tree;
 use pd_words::{Fault, ReadError};

@@ -3,7 +3,7 @@ ghost use Rattle.std.specs.Prelude.{◌≡◌, ◌++◌, ◌∷◌, []};
 ghost use Rattle.pd_sexp.specs.View.{view, views};
 ghost use Rattle.pd_words.specs.First.{Gives, Leaves, each, every};
 ghost use Rattle.pd_task.specs.Declarations as declarations;
-ghost use Rattle.pd_task.specs.Scope.{names_with};
+ghost use Rattle.pd_task.specs.own.Scope.{names_with};
 
 use crate::cond::one;
 use crate::headed::read_headed;

@@ -2,13 +2,17 @@
 //!
 //! `specs/Reading.antt` says which task two trees are, pass by pass, and which fault comes first where
 //! they are none; the passes stand in the files beside it.
+//!
+//! Objects, predicates and actions are tables that keep their names with them (`ObjectTable`, `PredicateTable`, `ActionTable`,
+//! `DomainTables`): that the names are those of what is declared is an invariant of the type. A list is read by its head in one place
+//! (`headed`); `found` keeps what the next effect stands under. The parts of a task are those of pd_model, which this crate passes on.
 #![tactic(auto)]
 
 ghost use Rattle.std.specs.Prelude.{◌≡◌, Ok, IfOk, IfErr, IsTrue};
 ghost use Rattle.pd_sexp.specs.View.{view};
 ghost use Rattle.pd_sexp.specs.Word.{has_words};
 ghost use Rattle.pd_task.specs.Reading as readings;
-ghost use Rattle.pd_task.specs.Told.{IsTold, told_error};
+ghost use Rattle.pd_task.specs.own.Told.{IsTold, told_error};
 
 mod action;
 mod actions;

@@ -6,8 +6,8 @@ ghost use Rattle.pd_sexp.specs.View.{view, views};
 ghost use Rattle.pd_words.specs.First.{Gives, GivesAs};
 ghost use Rattle.pd_words.specs.Frames as frames;
 ghost use Rattle.pd_task.specs.Reading as reading;
-ghost use Rattle.pd_task.specs.Scope.{names_with};
-ghost use Rattle.pd_task.specs.Tables.{domain_of};
+ghost use Rattle.pd_task.specs.own.Scope.{names_with};
+ghost use Rattle.pd_task.specs.own.Tables.{domain_of};
 
 use crate::actions::read_actions;
 use crate::cond::read_cond;

@@ -3,7 +3,7 @@ ghost use Rattle.std.specs.Prelude.{◌≡◌, ◌<◌, IfOk, length};
 ghost use Rattle.pd_sexp.specs.View.{view, views};
 ghost use Rattle.pd_words.specs.First.{Gives, every};
 ghost use Rattle.pd_task.specs.Atoms.{term, atom, predicate};
-ghost use Rattle.pd_task.specs.Scope.{names_with};
+ghost use Rattle.pd_task.specs.own.Scope.{names_with};
 
 use crate::vocabulary::Vocabulary;
 use pd_model::{Pattern, Term, Terms};

@@ -10,7 +10,7 @@ use Rattle.std.specs.Map.{lookup}
 use Rattle.std.specs.BTreeMap.{insert_entry, is_at}
 use Rattle.std.proofs.lemmas.Map.Text.{is_eq-slice_cmp}
 use Rattle.pd_words.specs.Names.{number_of, or_else}
-use Rattle.pd_words.proofs.NameLemmas.{number_push}
+use Rattle.pd_words.proofs.published.NameLemmas.{number_push}
 
 swap : {X : Type 0} (bk be : Bool) (v w : X) (later : Option X) → (bk ≡ true → cond be (Some w) later ≡ None)
     → cond be (Some w) (cond bk (Some v) later) ≡ cond bk (Some v) (cond be (Some w) later)

@@ -3,7 +3,7 @@ pub mod First
 pub mod Names
 pub mod Typed
 pub mod Types
-pub mod TypeList
 pub mod Standing
 pub mod Items
 pub mod Frames
+pub mod own

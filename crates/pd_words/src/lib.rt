@@ -1,5 +1,10 @@
 //! What PDDL files are written in: words, names and keywords, typed lists, the frames of files with their
 //! sections, tables of names and the variables in scope; and faults, each at the place of its first byte.
+//!
+//! `Table` has names in order and an ordered map to their numbers, tied by the type's invariant to the look-up in a list. There is one loop
+//! over typed lists (`typed`, over the trait `TypedList`, whose ghost members are the arguments of the definition `typed_from`); variables and
+//! the arguments of a predicate (`variables`), types (`types`) and, in pd_task, objects say what becomes of a word and of a type. Whether
+//! types lie under `object` is computed for all types at once, by composing the map from types to parents with itself.
 #![tactic(auto)]
 
 mod ancestors;

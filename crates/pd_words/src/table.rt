@@ -28,7 +28,7 @@ impl Model for Table {
     ghost invariant = { λ t. (name : List ℕ) → get_by (λ key. slice_cmp nat_cmp name key.items) t.numbers ≡ number_of name t.names.items };
 }
 
-/// Letting one go is one call, in which its parts go: whoever holds one proves one step.
+/// All parts are let go in one call, so that a proof has one step for it and not one for each part.
 impl Drop for Table {
     fn drop(self) {
         let_go!(self: Table { names, numbers });

@@ -5,7 +5,7 @@ ghost use Rattle.pd_model.specs.Types.{parents_of};
 ghost use Rattle.pd_words.specs.First.{Gives, GivesAs};
 ghost use Rattle.pd_words.specs.Types as types;
 ghost use Rattle.pd_words.specs.Types.{AreParents};
-ghost use Rattle.pd_words.specs.TypeList.{declared};
+ghost use Rattle.pd_words.specs.own.TypeList.{declared};
 ghost use Rattle.pd_words.specs.declared.fault.ReadError.TheVariants as errors;
 
 use crate::ancestors::{ancestors, is_rooted};
@@ -45,7 +45,7 @@ struct Declared {
 impl Declared {
     ghost use Rattle.std.specs.Prelude.{◌≡◌, IfOk, IfErr};
     ghost use Rattle.pd_words.specs.Types as types;
-    ghost use Rattle.pd_words.specs.TypeList.{declared};
+    ghost use Rattle.pd_words.specs.own.TypeList.{declared};
     ghost use Rattle.pd_words.specs.First.{Leaves};
     ghost use Rattle.pd_words.specs.declared.fault.ReadError.TheVariants as errors;
 
@@ -79,7 +79,7 @@ impl Declared {
 
 impl TypedList for Declared {
     ghost use Rattle.pd_words.specs.Types as types;
-    ghost use Rattle.pd_words.specs.TypeList.{declared};
+    ghost use Rattle.pd_words.specs.own.TypeList.{declared};
 
     // Types that are declared nowhere may stand after a dash.
     type Types = ();
@@ -98,7 +98,7 @@ impl TypedList for Declared {
 
     ghost untyped = { types.object_name };
 
-    #[tactic(auto, using(crate::proofs::NameLemmas::number_none))]
+    #[tactic(auto, using(crate::proofs::published::NameLemmas::number_none))]
     fn admit(&mut self, alloc: Global, word: &Named) -> Result<(), ReadError> {
         wants(is_name(&word.name), Fault::Shape(word.at))?;
         if is_object(&word.name) {
@@ -137,7 +137,7 @@ fn read_declared(alloc: Global, items: &[Tree]) -> Result<Declared, ReadError>
 }
 
 // Adds a name if it is not there.
-#[tactic(auto, using(crate::proofs::NameLemmas::number_none))]
+#[tactic(auto, using(crate::proofs::published::NameLemmas::number_none))]
 fn add_name(alloc: Global, names: &mut Table, name: &Name) -> Result<(), ReadError>
     ensures added { OnOk result (names.new ≡ types.with_name names.old name.now) }
     ensures memory { IfErr result (λ e. e ≡ errors.Memory) }

@@ -66,7 +66,7 @@ impl TypedList for Variables {
     ghost untyped = { typed.object };
 
     // Takes a variable that stands for the first time.
-    #[tactic(auto, using(crate::proofs::NameLemmas::number_none))]
+    #[tactic(auto, using(crate::proofs::published::NameLemmas::number_none))]
     fn admit(&mut self, alloc: Global, word: &Named) -> Result<(), ReadError> {
         wants(is_variable(&word.name), Fault::Shape(word.at))?;
         if self.names.number(&word.name).is_some() {

@@ -1,6 +1,6 @@
 -- What is taken in two parts.
-use Rattle.std.proofs.Common.{◌≡◌, ◌≤◌, ℕ, ◌+◌, List, [], ◌++◌, Option, Some, None, take, drop, min, inl, inr, refl, ap, sym, ◌∙◌, append_assoc, length, ◌-◌, arith, length-drop}
-use Rattle.std.proofs.lemmas.List.{take_all, take-append-drop, append-nil, length-append, length-take-le}
+use Rattle.std.proofs.Common.{◌≡◌, ◌≤◌, ℕ, ◌+◌, List, ◌++◌, Option, Some, None, take, drop, min, inl, inr, refl, ap, sym, ◌∙◌, append_assoc, length, ◌-◌, arith, length-drop}
+use Rattle.std.proofs.lemmas.List.{take_all, take-append-drop, length-append, length-take-le}
 use Rattle.std.proofs.lemmas.List.{drop-drop}
 use Rattle.std.proofs.lemmas.Bool.{cases_lt}
 use Rattle.std.proofs.Math.Nat.{min-eq_left, min-eq_right}
@@ -20,9 +20,6 @@ range_rest xs i = take_all (length xs - i) (drop i xs) (omega (arith, length-dro
 -- bytes were appended, and then more
 pub Took-more : (old middle new bytes : List ℕ) → Took old middle → new ≡ middle ++ bytes → Took old new
 Took-more old middle new bytes took more = (took.0 ++ bytes, more ∙ (ap (λ xs. xs ++ bytes) took.1 ∙ append_assoc old took.0 bytes))
-
-pub Took-none : (old new : List ℕ) → new ≡ old → Took old new
-Took-none old new same = ([], same ∙ sym (append-nil old))
 
 -- a file that was taken whole has at most so many bytes
 pub whole-fits : (most : ℕ) (old new file : List ℕ) → TookWhole most old new file → length new ≤ length old + most

@@ -1,5 +1,3 @@
 pub mod Outside
-pub mod Calls
-pub mod MemShelf
-pub mod MemSink
 pub mod Tape
+pub mod own

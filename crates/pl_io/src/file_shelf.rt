@@ -4,12 +4,11 @@ ghost use Rattle.std.specs.declared.io.ErrorKind.TheVariants as kinds;
 ghost use Rattle.pl_io.specs.Outside.{Took};
 
 use crate::faults::note;
-use crate::{Bytes, Names, Shelf, TakeError, Taken};
+use crate::{Bytes, Heard, Names, Shelf, TakeError, Taken};
 use std::alloc::Global;
 use std::fs::{self, OpenFile};
 use std::io::{ErrorKind, Read};
 use std::rt::Files;
-use transcript::Heard;
 
 /// How many bytes are asked of the system at a time.
 const CHUNK: usize = 16384;

@@ -3,11 +3,10 @@ ghost use Rattle.std.specs.Prelude.{◌≡◌, ◌<◌, ◌≤◌, ◌+◌, ℕ,
 ghost use Rattle.pl_io.specs.Outside.{Rose};
 
 use crate::file_shelf::cause_of;
-use crate::{TakeError, Tape};
+use crate::{Sent, TakeError, Tape};
 use std::fs;
 use std::io::{ErrorKind, Read};
 use std::rt::Files;
-use transcript::Sent;
 
 /// What is open.
 #[derive(Drop)]

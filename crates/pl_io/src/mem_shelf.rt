@@ -1,15 +1,14 @@
 // A shelf in memory, for runs without a file system: it tells all its files, and fails where it was told to.
 ghost use Rattle.std.specs.Prelude.{◌≡◌, ◌≢◌, ◌↔◌, ◌≤◌, ◌+◌, ◌++◌, ℕ, true, false, List, [], ◌∷◌, length, option_map, IsTrue, IsSome, IsErr, OnErr, OnOk, IfSome, Contains};
 ghost use Rattle.pl_io.specs.Outside.{Notes, Took, TookWhole, TookFirst, Hears, fault_count, FaultRose};
-ghost use Rattle.pl_io.specs.Calls.{next_call, NextFails};
-ghost use Rattle.pl_io.specs.MemShelf.{bytes_at, has_none};
+ghost use Rattle.pl_io.specs.own.Calls.{next_call, NextFails};
+ghost use Rattle.pl_io.specs.own.MemShelf.{bytes_at, has_none};
 
 use crate::faults::note;
-use crate::{Bytes, Files, NamedFile, Names, Numbers, Shelf, TakeError, Taken};
+use crate::{Bytes, Files, Heard, NamedFile, Names, Numbers, Shelf, TakeError, Taken};
 use containers::let_go;
 use std::alloc::Global;
 use std::marker::Model;
-use transcript::Heard;
 
 /// Files in memory, by name. The calls of `take` whose numbers, counted from 1, are listed as failing fail.
 pub struct MemShelf {
@@ -22,14 +21,14 @@ pub struct MemShelf {
 }
 
 impl Model for MemShelf {
-    ghost use Rattle.pl_io.specs.MemShelf.{ShelfInMemory};
+    ghost use Rattle.pl_io.specs.own.MemShelf.{ShelfInMemory};
 
     ghost Value = { ShelfInMemory };
 
     ghost view = { λ shelf. record { files = shelf.files; failing = shelf.failing; calls = shelf.calls; failed = shelf.failed; heard = shelf.heard.entries } };
 }
 
-/// Letting one go is one call, in which its parts go: whoever holds one proves one step.
+/// All parts are let go in one call, so that a proof has one step for it and not one for each part.
 impl Drop for MemShelf {
     fn drop(self) {
         let_go!(self: MemShelf { alloc, files, failing, calls, failed, heard });

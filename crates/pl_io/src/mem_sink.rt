@@ -1,8 +1,8 @@
 // A sink in memory, for runs without a standard output: it tells what it took, and fails where it was told to.
 ghost use Rattle.std.specs.Prelude.{◌≡◌, ◌↔◌, ◌<◌, ◌≤◌, ◌+◌, ◌++◌, ◌-◌, ◌^◌, ℕ, List, [], length, take, Some, IsTrue, IsOk, IsErr, OnErr, OnOk, IfOk, vec_capacity};
 ghost use Rattle.pl_io.specs.Outside.{HasCause, appended};
-ghost use Rattle.pl_io.specs.Calls.{next_call, NextFails};
-ghost use Rattle.pl_io.specs.MemSink.{part_taken};
+ghost use Rattle.pl_io.specs.own.Calls.{next_call, NextFails};
+ghost use Rattle.pl_io.specs.own.MemSink.{part_taken};
 
 use crate::{Memory, Numbers, PutFailed, Sink};
 use std::alloc::Global;
@@ -22,7 +22,7 @@ pub struct MemSink {
 
 impl Model for MemSink {
     ghost use Rattle.std.specs.Prelude.{◌<◌, ◌≤◌, length, vec_capacity};
-    ghost use Rattle.pl_io.specs.MemSink.{SinkInMemory};
+    ghost use Rattle.pl_io.specs.own.MemSink.{SinkInMemory};
 
     ghost Value = { SinkInMemory };
 

@@ -4,8 +4,7 @@ ghost use Rattle.std.specs.Str.{bytes_eq};
 ghost use Rattle.pl_io.specs.Outside.{Rose};
 ghost use Rattle.pl_io.specs.Tape.{file_told};
 
-use crate::{NamedFile, TakeError, Tape};
-use transcript::Sent;
+use crate::{NamedFile, Sent, TakeError, Tape};
 
 /// One file in memory, of which each piece has at most so many bytes. A take at or after a place in it fails, where there is one.
 #[derive(Drop)]

@@ -1,9 +1,8 @@
 // The sink of the running program: the standard output. It tells the bytes that the system took by its own count.
 ghost use Rattle.std.specs.Prelude.{◌≡◌, ◌<◌, ◌≤◌, ◌+◌, ℕ, length, [], Some, IfSome};
 
-use crate::{PutFailed, Sink};
+use crate::{PutFailed, Sent, Sink};
 use std::io::{self, ErrorKind, Write};
-use transcript::Sent;
 
 /// The standard output. Each error is a fault, and so is a write that takes nothing.
 #[derive(Drop)]

@@ -1,3 +1,1 @@
-pub mod Verdicts
-pub mod Claims
-pub mod EveryOrder
+pub mod published

@@ -7,8 +7,8 @@ use Rattle.report_lines.specs.Horizons.{Entry, Says, is_word, entry_line, report
 use Rattle.clause_base.specs.Choice.{Known}
 use Rattle.clause_base.specs.Formula.{Cnf}
 use Rattle.clause_base.specs.Derivation.{IsRefutation}
-use Rattle.cdcl_rules.specs.declared.standing.Standing.{Standing}
-use Rattle.cdcl_rules.specs.declared.standing.Standing.TheVariants.{Going, Found, Refuted}
+use Rattle.cdcl_defs.specs.declared.standing.Standing.{Standing}
+use Rattle.cdcl_defs.specs.declared.standing.Standing.TheVariants.{Going, Found, Refuted}
 use Rattle.horizon_run.specs.Run.{reached}
 use Rattle.pd_model.specs.Plan.{IsPlan}
 use Rattle.pd_model.specs.declared.calls.Call.{Call}
@@ -17,10 +17,10 @@ use Rattle.pd_plan.specs.PlanFile.{plan_file}
 use Rattle.gt_core.specs.Literal.{is_in}
 use Rattle.gt_core.specs.AllStep.{HasMembersOnce}
 use Rattle.gt_core.specs.Published.{order_of}
-use Rattle.grounding_laws.specs.Grounded.{Grounded, IsGrounded}
-use Rattle.grounding_laws.specs.Laws.{AreNumbers}
+use Rattle.grounding_defs.specs.Grounded.{Grounded, IsGrounded}
+use Rattle.grounding_defs.specs.Laws.{AreNumbers}
 use Rattle.plan_report.specs.Listings.{ground_text, order_text}
-use Rattle.race_end.specs.Ends.{Word, WordRefuted, WordDropped, WordOpen, WordPlan}
+use Rattle.race_outcome.specs.Ends.{Word, WordRefuted, WordDropped, WordOpen, WordPlan}
 use Rattle.step_plans.specs.Plans.{actions_in}
 use Rattle.plan_report.specs.Report.{word_text, plan_line, exhausted_line, conflicts_line, calls_by_step}
 use Rattle.plan_report.specs.Laws.{TellsSteps}
@@ -30,13 +30,13 @@ use Rattle.requests.specs.declared.request.Stepping.{Stepping}
 use Rattle.requests.specs.declared.request.Stepping.TheVariants.{Exists}
 use Rattle.certificates.specs.Known.{IsOrdered, form_of, choice_at, formula_at}
 use Rattle.certificates.specs.Certificate.{IsCertificate}
-use Rattle.proof_text.specs.Text.{spaced, horizon_words}
+use Rattle.proof_log.specs.Text.{spaced, horizon_words}
 use Rattle.step_laws.specs.Form.{AreSets}
-use Rattle.horizon_formula.specs.Variables.{chain_places}
+use Rattle.formula_defs.specs.Variables.{chain_places}
 use Rattle.horizon_rates.specs.Horizons.{IsLastListed}
-use Rattle.plan_answers.specs.Answers.{OfSettings}
-use Rattle.plan_answers.specs.Stepping.{places_by, is_plan_by}
-use Rattle.plan_answers.specs.Tasks.{AreTask}
+use Rattle.commands.specs.Answers.{OfSettings}
+use Rattle.commands.specs.Stepping.{places_by, is_plan_by}
+use Rattle.commands.specs.Tasks.{AreTask}
 pub use Rattle.plan_tasks.specs.Claims.{Printed, OfFiles, OfGrounded, HasAtLeast, NoStepPlan, NoPlan}
 pub use Rattle.plan_tasks.specs.ToldPlans.{PlanRuns}
 

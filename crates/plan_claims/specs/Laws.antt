@@ -2,14 +2,15 @@
 use Rattle.report_lines.specs.Laws.{FrontsSayNoMore, ReportsSayEntries}
 use Rattle.gt_core.specs.Laws.{PublishedIsUnique, NeverItself, EachOrderRuns}
 use Rattle.two_invariants.specs.Laws.{InvariantsHold, OneListOfInvariants}
-use Rattle.grounding_laws.specs.Laws.{OneResult, GroundedIsTask, ActionsAreCalls, GoalsAgree}
+use Rattle.grounding_defs.specs.Laws.{OneResult, GroundedIsTask, ActionsAreCalls, GoalsAgree}
 use Rattle.requests.specs.Seen.{NumbersAreSettings}
 use Rattle.plan_tasks.specs.Laws.{TaskLaws}
 use Rattle.plan_tasks.specs.PlanLaws.{PlanLaws}
 use Rattle.step_plans.specs.Laws.{StepPlansRun, ShortPlansAreStepPlans, OtherPlansAreLonger, SetsAreLists, ListedHaveActionsOnce, ListedAreInOrder, SetsAtPlacesAreListed}
-use Rattle.proof_text.specs.Laws.{OneSpelling, OnePlace, LinesAreRead, TextsAreFit}
+use Rattle.proof_log.specs.Laws.{OneSpelling, OnePlace, LinesAreRead, TextsAreFit}
 use Rattle.plan_report.specs.Laws.{LinesAreReadBack, PlansAreRead, StepsAreTold, HorizonsAreTold}
 
+-- all laws on which the promises of `run` rest
 pub record Laws : Type 0 where
   pub of_tasks : TaskLaws
   pub of_plans : PlanLaws

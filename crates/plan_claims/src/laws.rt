@@ -8,8 +8,8 @@ pub fn laws()
     requests::laws::laws();
     report_lines::laws();
     gt_core::laws::laws();
-    grounding_laws::laws::laws();
+    grounding_defs::laws::laws();
     plan_report::laws::laws();
-    proof_text::laws::laws();
+    proof_log::laws::laws();
     plan_tasks::laws::laws();
 }

@@ -21,6 +21,7 @@ status_of_race outcomes.Planned = 0
 status_of_race outcomes.Exhausted = 1
 status_of_race outcomes.Unfinished = 2
 
+-- the exit status of an ending
 abbrev pub status_of : Ending → ℕ
 status_of (Report outcome text) = status_of_race outcome
 status_of (Listing text) = 0

@@ -1,5 +1,8 @@
 //! The planner as a program: it hands the words, the system's files and the standard output to the top call, and ends with
 //! its status.
+//!
+//! In the gate it has one row of words and standard output; `bench/check/rows` then runs it on the rows of `bench/check/rows.d`. It ends with
+//! status 9 where the system does not give the words.
 #![tactic(auto)]
 
 ghost use Rattle.std.specs.Prelude.{◌≡◌, IsErr};

@@ -6,17 +6,17 @@ use Rattle.std.proofs.lemmas.List.Elements.{All-map}
 use Rattle.std.proofs.lemmas.Option.{get_or_from_slice_get}
 use Rattle.report_lines.specs.Lines.{is_line, joined}
 use Rattle.report_lines.specs.Horizons.{IsEntry, is_word, is_remark}
-use Rattle.report_lines.proofs.ReadBack.{both}
-use Rattle.report_lines.proofs.Entries.{line-append, word_line, decimal_word}
+use Rattle.report_lines.proofs.published.ReadBack.{both}
+use Rattle.report_lines.proofs.published.Entries.{line-append, word_line, decimal_word}
 use Rattle.pd_sexp.specs.Bytes.{open_paren}
 use Rattle.pd_model.specs.Fits.{is_call}
 use Rattle.pd_model.specs.Text.{call_text}
 use Rattle.pd_model.specs.declared.calls.Call.{Call}
 use Rattle.pd_model.specs.declared.parts.Parts.{Parts}
-use Rattle.grounding_laws.specs.Grounded.{Grounded}
-use Rattle.grounding_laws.specs.Laws.{AreNumbers}
+use Rattle.grounding_defs.specs.Grounded.{Grounded}
+use Rattle.grounding_defs.specs.Laws.{AreNumbers}
 use Rattle.plan_report.specs.Listings.{call_at}
-use Rattle.race_end.specs.Ends.{Word, WordRefuted, WordDropped, WordOpen, WordPlan, LineView, EndView, Planned, Exhausted, Unfinished, lines_in, conflicts_in}
+use Rattle.race_outcome.specs.Ends.{Word, WordRefuted, WordDropped, WordOpen, WordPlan, LineView, EndView, Planned, Exhausted, Unfinished, lines_in, conflicts_in}
 use Rattle.step_plans.specs.Plans.{actions_in}
 use Rattle.plan_report.specs.Report.{word_text, entry_of, conflicts_line, plan_line, exhausted_line, end_line, step_line, step_lines, action_text, calls_by_step, plan_lines, last_lines}
 use Rattle.plan_report.specs.Laws.{AreSmall, IsSmallEnd, IsSmall, HasCalls}

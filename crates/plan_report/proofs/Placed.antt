@@ -4,9 +4,9 @@ use Rattle.std.proofs.lemmas.List.{length-map}
 use Rattle.gt_core.specs.Literal.{is_in}
 use Rattle.gt_core.specs.Task.{Task}
 use Rattle.gt_core.specs.Published.{IsPublished, order_of}
-use Rattle.action_order.proofs.PublishLaw.{action_below}
+use Rattle.action_order.proofs.published.PublishLaw.{action_below}
 use Rattle.pd_model.specs.declared.parts.Parts.{Parts}
-use Rattle.grounding_laws.specs.Grounded.{Grounded, IsGrounded}
+use Rattle.grounding_defs.specs.Grounded.{Grounded, IsGrounded}
 
 -- each place has the number of a call
 pub placed_calls :

@@ -3,13 +3,13 @@ use Rattle.std.proofs.Common.{◌≡◌, ℕ, ◌+◌, List, [], ◌∷◌, ◌+
 use Rattle.std.specs.List.{flat_map}
 use Rattle.report_lines.specs.Lines.{joined}
 use Rattle.pd_model.specs.declared.parts.Parts.{Parts}
-use Rattle.grounding_laws.specs.Grounded.{Grounded}
+use Rattle.grounding_defs.specs.Grounded.{Grounded}
 use Rattle.report_lines.specs.Horizons.{entry_line}
-use Rattle.race_end.specs.declared.line.Line.{Line}
-use Rattle.race_end.specs.declared.end.RaceEnd.{RaceEnd}
-use Rattle.race_end.specs.declared.end.RaceEnd.TheVariants as races
-use Rattle.race_end.specs.Ends.{LineView, line_view, end_view, lines_of, lines_in, conflicts_in}
-use Rattle.step_plans.proofs.ByPlace.{rest_at}
+use Rattle.race_outcome.specs.declared.line.Line.{Line}
+use Rattle.race_outcome.specs.declared.end.RaceEnd.{RaceEnd}
+use Rattle.race_outcome.specs.declared.end.RaceEnd.TheVariants as races
+use Rattle.race_outcome.specs.Ends.{LineView, line_view, end_view, lines_of, lines_in, conflicts_in}
+use Rattle.step_plans.proofs.published.ByPlace.{rest_at}
 use Rattle.plan_report.specs.Report.{entry_of, action_text, step_line, step_lines, calls_by_step, conflicts_line, end_line, plan_lines, last_lines, report_of}
 use Rattle.plan_report.proofs.Lines.{joined-append}
 

@@ -5,8 +5,8 @@ use Rattle.std.specs.List.{list_all}
 use Rattle.std.proofs.lemmas.List.Elements.{All-head, All-tail}
 use Rattle.report_lines.specs.Lines.{is_line, joined}
 use Rattle.report_lines.specs.Horizons.{Entry, IsEntry, entry_line, is_remark}
-use Rattle.report_lines.proofs.ReadBack.{both}
-use Rattle.report_lines.proofs.Entries.{entry_is_line}
+use Rattle.report_lines.proofs.published.ReadBack.{both}
+use Rattle.report_lines.proofs.published.Entries.{entry_is_line}
 use Rattle.pd_sexp.specs.Bytes.{semicolon, line_feed}
 use Rattle.pd_model.specs.Fits.{is_call}
 use Rattle.pd_model.specs.Text.{call_text}
@@ -16,9 +16,9 @@ use Rattle.pd_model.specs.declared.parts.Parts.{Parts}
 use Rattle.pd_plan.specs.PlanFile.{plan_file}
 use Rattle.pd_plan.specs.PlanText.{SpellsAnywhere}
 use Rattle.pd_plan.specs.Laws.{NothingIsSpelled, CommentsAddNone, CallsAreSpelled, SpelledAreRead}
-use Rattle.grounding_laws.specs.Grounded.{Grounded}
-use Rattle.grounding_laws.specs.Laws.{AreNumbers}
-use Rattle.race_end.specs.Ends.{LineView, Planned, conflicts_in}
+use Rattle.grounding_defs.specs.Grounded.{Grounded}
+use Rattle.grounding_defs.specs.Laws.{AreNumbers}
+use Rattle.race_outcome.specs.Ends.{LineView, Planned, conflicts_in}
 use Rattle.step_plans.specs.Plans.{actions_in}
 use Rattle.plan_report.specs.Report.{entry_of, step_lines, action_text, calls_by_step, plan_text, last_lines, report_of}
 use Rattle.plan_report.specs.Laws.{IsSmallPlan, IsSmall}

@@ -1,7 +1,7 @@
 use Rattle.std.proofs.Common.{arith, ◌≡◌, ◌+◌, ◌≤◌, ℕ, List, ◌++◌, map, length, codes, decimal, drop, slice_get, Some, sym, ap, ◌∙◌}
 use Rattle.std.proofs.lemmas.List.{append_assoc, drop_all, append-nil}
 use Rattle.plan_report.specs.Listings.{numbered}
-use Rattle.atom_join.proofs.Parts.{got_rest}
+use Rattle.atom_join.proofs.published.Parts.{got_rest}
 
 -- Numbered lines, one after the other.
 

@@ -6,13 +6,13 @@ use Rattle.std.proofs.lemmas.List.Elements.{All-contains, All-cons, All-nil, All
 use Rattle.report_lines.specs.Lines.{lines_of}
 use Rattle.report_lines.specs.Horizons.{Says, Entry, IsEntry, entry_line, is_word}
 use Rattle.report_lines.specs.Laws.{LinesReadBack, ReportsSayEntries}
-use Rattle.report_lines.proofs.Entries.{all_lines}
+use Rattle.report_lines.proofs.published.Entries.{all_lines}
 use Rattle.pd_model.specs.Fits.{is_call}
 use Rattle.pd_model.specs.declared.calls.Call.{Call}
 use Rattle.pd_model.specs.declared.parts.Parts.{Parts}
-use Rattle.grounding_laws.specs.Grounded.{Grounded}
-use Rattle.grounding_laws.specs.Laws.{AreNumbers}
-use Rattle.race_end.specs.Ends.{LineView, EndView, Planned, lines_in, conflicts_in}
+use Rattle.grounding_defs.specs.Grounded.{Grounded}
+use Rattle.grounding_defs.specs.Laws.{AreNumbers}
+use Rattle.race_outcome.specs.Ends.{LineView, EndView, Planned, lines_in, conflicts_in}
 use Rattle.step_plans.specs.Plans.{actions_in}
 use Rattle.plan_report.specs.Report.{entry_of, conflicts_line, end_line, calls_by_step, told_lines, plan_text, last_lines, report_of}
 use Rattle.plan_report.specs.Laws.{IsSmallPlan, IsSmall, HasCalls, TellsSteps, Tells, is_step}

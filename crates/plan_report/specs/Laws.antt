@@ -9,9 +9,9 @@ use Rattle.pd_model.specs.WellFormed.{IsWellFormed}
 use Rattle.pd_model.specs.declared.calls.Call.{Call}
 use Rattle.pd_model.specs.declared.parts.Parts.{Parts}
 use Rattle.pd_plan.specs.PlanFile.{plan_file}
-use Rattle.grounding_laws.specs.Grounded.{Grounded}
-use Rattle.grounding_laws.specs.Laws.{AreNumbers}
-use Rattle.race_end.specs.Ends.{LineView, EndView, Planned, Exhausted, Unfinished, lines_in, conflicts_in}
+use Rattle.grounding_defs.specs.Grounded.{Grounded}
+use Rattle.grounding_defs.specs.Laws.{AreNumbers}
+use Rattle.race_outcome.specs.Ends.{LineView, EndView, Planned, Exhausted, Unfinished, lines_in, conflicts_in}
 use Rattle.step_plans.specs.Plans.{actions_in}
 use Rattle.plan_report.specs.Report.{word_text, entry_of, step_lines, calls_by_step, told_lines, plan_text, last_lines, report_of}
 
@@ -27,6 +27,7 @@ HasActionsBelow n (Unfinished lines) = Unit {0}
 abbrev pub IsSmallLine : LineView → Type 0
 IsSmallLine line = (line.horizon < 2 ^ 64) × (line.conflicts < 2 ^ 64)
 
+-- the numbers of each line are numbers of 64 bits
 abbrev pub AreSmall : List LineView → Type 0
 AreSmall lines = All IsSmallLine lines
 

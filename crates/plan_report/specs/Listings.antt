@@ -6,7 +6,7 @@ use Rattle.action_order.specs.Order.{name_in}
 use Rattle.pd_model.specs.declared.calls.Call.{Call}
 use Rattle.pd_model.specs.declared.parts.Parts.{Parts}
 use Rattle.pd_model.specs.Text.{atom_text, call_text}
-use Rattle.grounding_laws.specs.Grounded.{Grounded}
+use Rattle.grounding_defs.specs.Grounded.{Grounded}
 
 -- one line for each text, with its number; the first has number n
 abbrev pub numbered : ℕ → List (List ℕ) → List ℕ

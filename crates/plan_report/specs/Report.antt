@@ -4,13 +4,14 @@ use Rattle.report_lines.specs.Lines.{joined}
 use Rattle.report_lines.specs.Horizons.{Entry, report}
 use Rattle.pd_model.specs.declared.parts.Parts.{Parts}
 use Rattle.pd_model.specs.Text.{call_text}
-use Rattle.grounding_laws.specs.Grounded.{Grounded}
+use Rattle.grounding_defs.specs.Grounded.{Grounded}
 use Rattle.plan_report.specs.Listings.{call_at}
-use Rattle.race_end.specs.Ends.{Word, WordRefuted, WordDropped, WordOpen, WordPlan, LineView, EndView, Planned, Exhausted, Unfinished, lines_in, conflicts_in}
+use Rattle.race_outcome.specs.Ends.{Word, WordRefuted, WordDropped, WordOpen, WordPlan, LineView, EndView, Planned, Exhausted, Unfinished, lines_in, conflicts_in}
 use Rattle.step_plans.specs.Plans.{actions_in}
 
 -- ---- horizons
 
+-- the word for what became of a horizon
 abbrev pub word_text : Word → List ℕ
 word_text WordRefuted = codes "refuted"
 word_text WordDropped = codes "dropped"
@@ -27,9 +28,11 @@ conflicts_line sum budget = codes "; conflicts " ++ (decimal sum ++ (codes " of 
 
 -- ---- the end
 
+-- the line that tells of a plan
 abbrev pub plan_line : ℕ → ℕ → List ℕ
 plan_line steps actions = codes "; plan of " ++ (decimal steps ++ (codes " steps with " ++ (decimal actions ++ codes " actions")))
 
+-- the line that tells that the last listed horizon is refuted
 abbrev pub exhausted_line : ℕ → List ℕ
 exhausted_line horizon = codes "; exhausted at horizon " ++ decimal horizon
 
@@ -41,6 +44,7 @@ end_line (Unfinished lines) = codes "; unfinished"
 
 -- ---- steps
 
+-- the line above the calls of a step
 abbrev pub step_line : ℕ → List ℕ
 step_line number = codes "; step " ++ decimal number
 
@@ -61,6 +65,7 @@ calls_by_step p g steps = map (map (action_text p g)) steps
 abbrev pub told_lines : Parts → Grounded → ℕ → List (List ℕ) → List (List ℕ)
 told_lines p g horizon steps = plan_line horizon (length (actions_in steps)) ∷ step_lines 1 (calls_by_step p g steps)
 
+-- the text of a plan where no race is told of
 abbrev pub plan_text : Parts → Grounded → ℕ → List (List ℕ) → List ℕ
 plan_text p g horizon steps = joined (told_lines p g horizon steps)
 

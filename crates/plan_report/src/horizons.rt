@@ -3,12 +3,12 @@ ghost use Rattle.std.specs.Prelude.{◌≡◌, ◌<◌, ◌^◌, ◌∷◌, ◌+
 ghost use Rattle.std.specs.List.{flat_map};
 ghost use Rattle.report_lines.specs.Lines.{joined};
 ghost use Rattle.report_lines.specs.Horizons.{entry_line};
-ghost use Rattle.race_end.specs.Ends.{word_of, line_view, conflicts_in};
+ghost use Rattle.race_outcome.specs.Ends.{word_of, line_view, conflicts_in};
 ghost use Rattle.plan_report.specs.Report.{word_text, entry_of};
 ghost use Rattle.plan_report.specs.Laws.{IsSmallLine, AreSmall};
 
 use pd_model::Memory;
-use race_end::{Line, LineEnd};
+use race_outcome::{Line, LineEnd};
 use report_lines::push_number;
 
 /// The word for how a horizon ended.

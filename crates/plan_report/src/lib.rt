@@ -4,6 +4,9 @@
 //! of a plan, the sets of its steps, and of each horizon what the race came to.
 //!
 //! `listings` has the lines of a ground task and of its published order; `specs/Listings.antt` says which.
+//!
+//! `horizons` writes the lines of the horizons, `calls` the steps with their calls, `report` the whole, and `listings` the lines of a ground task
+//! and of a published order. `laws` says what a reader finds in a report.
 #![tactic(auto)]
 
 mod calls;

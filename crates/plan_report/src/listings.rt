@@ -2,7 +2,7 @@
 ghost use Rattle.std.specs.Prelude.{◌≡◌, ◌++◌, ◌<◌, map, length, true, OnOk, decimal};
 ghost use Rattle.gt_core.specs.Literal.{is_in};
 ghost use Rattle.gt_core.specs.Published.{IsPublished, order_of};
-ghost use Rattle.grounding_laws.specs.Grounded.{IsGrounded};
+ghost use Rattle.grounding_defs.specs.Grounded.{IsGrounded};
 ghost use Rattle.pd_model.specs.Text.{atom_text, call_text};
 ghost use Rattle.plan_report.specs.Listings.{placed, numbered, ground_text, order_counts, order_text};
 

@@ -2,7 +2,7 @@
 ghost use Rattle.std.specs.Prelude.{◌≡◌, ◌<◌, ◌^◌, ◌∷◌, ◌++◌, [], length, OnOk, IfOk};
 ghost use Rattle.std.specs.List.{AllByRecursion};
 ghost use Rattle.report_lines.specs.Lines.{joined};
-ghost use Rattle.race_end.specs.Ends.{end_view, lines_of, lines_in, conflicts_in};
+ghost use Rattle.race_outcome.specs.Ends.{end_view, lines_of, lines_in, conflicts_in};
 ghost use Rattle.plan_report.specs.Report.{conflicts_line, end_line, plan_line, exhausted_line, plan_lines, plan_text, report_of, summary_of};
 ghost use Rattle.plan_report.specs.Laws.{HasActionsBelow, IsSmallPlan, IsSmallEnd, IsSmall};
 
@@ -12,7 +12,7 @@ use crate::text::Text;
 use action_order::numbers::ActNumbers;
 use grounder::Grounded;
 use pd_model::{Memory, Pddl};
-use race_end::{Line, RaceEnd};
+use race_outcome::{Line, RaceEnd};
 use report_lines::push_number;
 use std::alloc::Global;
 use step_encoding::steps::Steps;

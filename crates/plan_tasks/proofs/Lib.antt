@@ -1,4 +1,1 @@
-pub mod Claims
-pub mod Printing
-pub mod Statuses
-pub mod TellingPlans
+pub mod published

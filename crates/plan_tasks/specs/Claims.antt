@@ -5,7 +5,7 @@ use Rattle.pd_model.specs.Plan.{IsPlan}
 use Rattle.pd_model.specs.declared.calls.Call.{Call}
 use Rattle.pd_model.specs.declared.parts.Parts.{Parts}
 use Rattle.gt_core.specs.Published.{order_of}
-use Rattle.grounding_laws.specs.Grounded.{Grounded, IsGrounded}
+use Rattle.grounding_defs.specs.Grounded.{Grounded, IsGrounded}
 use Rattle.requests.specs.declared.request.Stepping.{Stepping}
 use Rattle.step_plans.specs.Known.{IsOrdered}
 use Rattle.plan_tasks.specs.Stepping.{is_plan_by}

@@ -6,7 +6,7 @@ use Rattle.gt_core.specs.Interference.{disables}
 use Rattle.gt_core.specs.Step.{IsStepPlan}
 use Rattle.gt_core.specs.AllStep.{IsAllStepPlan}
 use Rattle.step_chains.specs.BothWays.{all_places}
-use Rattle.horizon_formula.specs.Variables.{chain_places}
+use Rattle.formula_defs.specs.Variables.{chain_places}
 use Rattle.requests.specs.declared.request.Stepping.{Stepping}
 use Rattle.requests.specs.declared.request.Stepping.TheVariants.{Exists, All}
 

@@ -5,14 +5,14 @@ use Rattle.pd_sexp.specs.Fault.{syntax, deep, IsFault, Reads}
 use Rattle.pd_sexp.specs.View.{view}
 use Rattle.pd_sexp.specs.Word.{has_words}
 use Rattle.pd_model.specs.WellFormed.{IsWellFormed}
-use Rattle.pd_model.specs.declared.memory.Which.{Which}
-use Rattle.pd_model.specs.declared.memory.Which.TheVariants as which
+use Rattle.pd_model.specs.declared.which.Which.{Which}
+use Rattle.pd_model.specs.declared.which.Which.TheVariants as which
 use Rattle.pd_model.specs.declared.parts.Parts.{Parts}
 use Rattle.pd_task.specs.Reading.{reading}
 use Rattle.pd_task.specs.declared.error.PddlError.{PddlError}
 use Rattle.pd_task.specs.declared.error.PddlError.TheVariants as errors
-use Rattle.grounding_laws.specs.Grounded.{Grounded, IsGrounded}
-use Rattle.grounding_laws.specs.Limits.{IsWithin, IsOverTuples, IsOverFacts, IsOverActions, IsOverEffects}
+use Rattle.grounding_defs.specs.Grounded.{Grounded, IsGrounded}
+use Rattle.grounding_defs.specs.Limits.{IsWithin, IsOverTuples, IsOverFacts, IsOverActions, IsOverEffects}
 use Rattle.plan_endings.specs.declared.ending.File.{File}
 use Rattle.plan_endings.specs.declared.ending.File.TheVariants.{Domain, Problem, Plan}
 use Rattle.plan_endings.specs.declared.ending.Limit.{Limit}

@@ -7,8 +7,8 @@ use Rattle.pd_model.specs.declared.calls.Call.{Call}
 use Rattle.pd_model.specs.declared.parts.Parts.{Parts}
 use Rattle.pd_plan.specs.PlanFile.{plan_file}
 use Rattle.gt_core.specs.Published.{order_of}
-use Rattle.grounding_laws.specs.Grounded.{Grounded}
-use Rattle.grounding_laws.specs.Laws.{AreNumbers}
+use Rattle.grounding_defs.specs.Grounded.{Grounded}
+use Rattle.grounding_defs.specs.Laws.{AreNumbers}
 use Rattle.step_laws.specs.Form.{AreSets}
 use Rattle.step_plans.specs.Plans.{AreListed, HasActionsOnce, actions_in}
 use Rattle.plan_report.specs.Report.{plan_line, calls_by_step}

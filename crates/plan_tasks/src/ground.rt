@@ -1,7 +1,7 @@
 //! Grounding a task.
 ghost use Rattle.std.specs.Prelude.{◌≡◌, IfOk};
-ghost use Rattle.grounding_laws.specs.Grounded.{IsGrounded};
-ghost use Rattle.grounding_laws.specs.Limits.{IsWithin};
+ghost use Rattle.grounding_defs.specs.Grounded.{IsGrounded};
+ghost use Rattle.grounding_defs.specs.Limits.{IsWithin};
 ghost use Rattle.plan_tasks.specs.Tasks.{TellsOver};
 ghost use Rattle.input_files.specs.Ends.{StopsBy};
 

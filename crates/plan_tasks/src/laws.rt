@@ -9,7 +9,7 @@ pub fn laws()
 {
     gt_core::laws::laws();
     two_invariants::laws::laws();
-    grounding_laws::laws::laws();
+    grounding_defs::laws::laws();
     step_plans::laws::laws();
     plan_report::laws::laws();
 }

@@ -22,7 +22,7 @@ pub struct Ready {
     pub grounded: Grounded,
 }
 
-/// Letting one go is one call, in which its parts go: whoever holds one proves one step.
+/// All parts are let go in one call, so that a proof has one step for it and not one for each part.
 impl Drop for Ready {
     fn drop(self) {
         let_go!(self: Ready { task, grounded });

@@ -1,5 +1,5 @@
 -- The parts of a batch: from its files to an ending for each problem.
-use Rattle.std.proofs.Common.{◌≡◌, ◌≤◌, ◌<◌, ℕ, ◌+◌, true, false, List, [], ◌∷◌, ◌++◌, length, Option, Some, None, refl, sym, subst, arith, inl, inr, ◌∙◌}
+use Rattle.std.proofs.Common.{◌≡◌, ◌≤◌, ℕ, ◌+◌, true, false, List, [], ◌∷◌, ◌++◌, length, Option, Some, None, refl, sym, subst, arith, inl, inr, ◌∙◌}
 use Rattle.pl_io.specs.Outside.{Heard}
 use Rattle.std.specs.List.{AllByRecursion, AllZip}
 use Rattle.horizon_rates.specs.declared.settings.Settings.{Settings}
@@ -12,14 +12,14 @@ use Rattle.plan_endings.specs.declared.ending.File.{File}
 use Rattle.plan_endings.specs.declared.ending.File.TheVariants.{Domain, Problem}
 use Rattle.input_files.specs.Limits.{most_of, most_bytes, file_at}
 use Rattle.input_files.specs.Files.{FaultsFrom, IsWhole, IsFront, IsWholeOrFront, AreTakenOrLong}
-use Rattle.plan_answers.specs.Tasks.{grounded}
+use Rattle.commands.specs.Tasks.{grounded}
 use Rattle.plan_top.specs.Causes.{HasRead, stopped, IsPartOf, ArePartsOf, Comes, unread, in_parts, is_answer}
-use Rattle.plan_top.specs.Parts.{IsBatch, IsShort, AnswersPart, AnswersBatch, IsRunOf, IsPart, IsSound, ArePrepared, AnswersRun, open_in, woven}
+use Rattle.plan_top.specs.own.Parts.{IsBatch, IsShort, AnswersPart, AnswersBatch, IsRunOf, IsPart, IsSound, ArePrepared, AnswersRun, open_in, woven}
 use Rattle.plan_top.specs.declared.parts.Part.{Part}
 use Rattle.plan_top.specs.declared.parts.Part.TheVariants as parts
 use Rattle.plan_top.specs.declared.parts.Run.{Run}
 use Rattle.plan_top.proofs.Complete.{batch_most}
-use Rattle.input_files.proofs.Taking.{kept_count}
+use Rattle.input_files.proofs.published.Taking.{kept_count}
 use Rattle.plan_top.proofs.Told.{decides_answer, taken_comes}
 
 -- ---- files
@@ -112,9 +112,6 @@ module _ (took : List Heard) (old new : List (List ℕ)) (settings : Settings) (
 
   met_count : (files : List (Option (List ℕ))) → AreMet files → length files ≡ length (is.0 ∷ is.1)
   met_count files are = kept_count IsWholeOrFront (file_at (batches is.0 is.1 (numbers settings) turns)) 0 (is.0 ∷ is.1) took files (met_batch files are)
-
-  pub some_files : (files : List (Option (List ℕ))) → AreMet files → 0 < length files
-  some_files files are = let count = met_count files are in omega (arith, count)
 
   files_short : (files : List (Option (List ℕ))) → AreMet files → AllByRecursion IsShort files
   files_short files are = all_short old new is.0 is.1 settings turns 0 (is.0 ∷ is.1) took files (met_batch files are)

@@ -10,7 +10,7 @@ use Rattle.pd_model.specs.Plan.{verdict}
 use Rattle.pd_model.specs.declared.calls.Call.{Call}
 use Rattle.pd_plan.specs.PlanFile.{plan_file}
 use Rattle.horizon_rates.specs.declared.settings.Settings.{Settings}
-use Rattle.race_end.specs.Ends.{EndView, Planned, Exhausted, Unfinished, end_view}
+use Rattle.race_outcome.specs.Ends.{EndView, Planned, Exhausted, Unfinished, end_view}
 use Rattle.plan_report.specs.Report.{report_of}
 use Rattle.pd_model.specs.declared.parts.Parts.{Parts}
 use Rattle.plan_gen.specs.declared.Kind.{Kind as Generated}
@@ -31,26 +31,26 @@ use Rattle.plan_endings.specs.declared.ending.File.{File}
 use Rattle.plan_endings.specs.declared.ending.File.TheVariants.{Domain, Problem}
 use Rattle.input_files.specs.Limits.{most_bytes, AreShort, file_at, most_of}
 use Rattle.input_files.specs.Files.{IsFront, AreOf, StopsFrom, FaultsFrom, RoseAmong}
-use Rattle.input_files.proofs.Hearing.{front_long, taken_are, of_front}
+use Rattle.input_files.proofs.published.Hearing.{front_long, taken_are, of_front}
 use Rattle.clause_base.specs.declared.log.Entry.{Entry}
-use Rattle.proof_text.specs.Place.{IsUnfitAt}
-use Rattle.proof_text.specs.Laws.{TextsAreFit}
+use Rattle.proof_log.specs.Place.{IsUnfitAt}
+use Rattle.proof_log.specs.Laws.{TextsAreFit}
 use Rattle.certificates.specs.Certificate.{IsSpelled}
 use Rattle.certificates.specs.declared.prove.Proved.{Proved}
 use Rattle.certificates.specs.declared.prove.Proved.TheVariants as proved
 use Rattle.certificates.specs.declared.verify.Judged.{Judged}
 use Rattle.certificates.specs.declared.verify.Judged.TheVariants as judged
-use Rattle.plan_answers.specs.Tasks.{AreTask, RefusesTask, IsTreeFault, domain_tree, problem_tree, no_task, OnceRead, not_read, read, refused, past, OnceGrounded, not_grounded, grounded, IsOver}
-use Rattle.plan_answers.specs.Raced.{too_large, ended, outcome_of}
-use Rattle.plan_answers.specs.Generated.{AnswersGenerated, RacesGenerated, generated_report}
-use Rattle.plan_answers.specs.Answers.{OfTwo, OfThree, Decides, AnswersPlan, AnswersGround, AnswersOrder, AnswersCheck, AnswersProve, not_run, run, AnswersVerify, unfit, beyond, spelled, not_checked, checked, ending_of_run, ending_of_check, ending_of}
+use Rattle.commands.specs.Tasks.{AreTask, RefusesTask, IsTreeFault, domain_tree, problem_tree, no_task, OnceRead, not_read, read, refused, past, OnceGrounded, not_grounded, grounded, IsOver}
+use Rattle.commands.specs.Raced.{too_large, ended, outcome_of}
+use Rattle.commands.specs.Generated.{AnswersGenerated, RacesGenerated, generated_report}
+use Rattle.commands.specs.Answers.{OfTwo, OfThree, Decides, AnswersPlan, AnswersGround, AnswersOrder, AnswersCheck, AnswersProve, not_run, run, AnswersVerify, unfit, beyond, spelled, not_checked, checked, ending_of_run, ending_of_check, ending_of}
 use Rattle.plan_top.specs.Causes.{ComesFor, stopped, decided, ArePartsOf, IsBatchOf, Comes, no_request, of_one, unread, in_parts}
 use Rattle.plan_top.specs.Complete.{GoesWell, AreWithin, AreChecked, AreSpelled, AreInOrder, IsGoodAlone, IsGood}
 use Rattle.plan_endings.specs.Ending.{status_of}
 use Rattle.gt_core.specs.Lawful.{conditional_in}
-use Rattle.grounding_laws.specs.Grounded.{Grounded, IsGrounded}
-use Rattle.grounding_laws.specs.Limits.{IsWithin}
-use Rattle.grounding_laws.proofs.Unique.{one_result}
+use Rattle.grounding_defs.specs.Grounded.{Grounded, IsGrounded}
+use Rattle.grounding_defs.specs.Limits.{IsWithin}
+use Rattle.grounding_defs.proofs.published.Unique.{one_result}
 use Rattle.plan_top.proofs.Told.{one_request}
 
 good_zero : (request : Seen) (end : Ending) → status_of end ≡ 0 → IsGoodAlone request end

@@ -7,7 +7,7 @@ use Rattle.std.proofs.lemmas.List.Elements.{All-contains, All-from_recursion}
 use Rattle.horizon_rates.specs.Horizons.{listed}
 use Rattle.step_encoding.specs.Limits.{planner_literals}
 use Rattle.step_encoding.specs.Numbers.{literals_of}
-use Rattle.race_end.specs.Ends.{LineView, EndView, lines_in}
+use Rattle.race_outcome.specs.Ends.{LineView, EndView, lines_in}
 use Rattle.race.specs.Input.{RaceInput}
 use Rattle.race.specs.State.{LiveRun, RaceState, live_at, spent}
 use Rattle.race.specs.Starts.{fitting, started, fill, filled, too_large}
@@ -15,7 +15,7 @@ use Rattle.race.specs.Grants.{grants, raised, advanced}
 use Rattle.race.specs.Found.{first_found, open_line, lines}
 use Rattle.race.specs.Clears.{any_refuted, passed_line, passed, staying, cleared}
 use Rattle.race.specs.Race.{Stage, On, Ended, TooLarge, is_exhausted, settled, judged, round, next_stage, after_rounds, race_of}
-use Rattle.race.proofs.Ends.{settled-exhausted, settled-else, judged-plan, judged-none}
+use Rattle.race.proofs.published.Ends.{settled-exhausted, settled-else, judged-plan, judged-none}
 
 module _ (input : RaceInput) where
   -- the formula of a horizon is not too large

@@ -6,7 +6,7 @@ use Rattle.gt_core.specs.Task.{Task}
 use Rattle.gt_core.specs.Laws.{PublishedIsUnique}
 use Rattle.two_invariants.specs.Laws.{OneListOfInvariants}
 use Rattle.step_laws.specs.Form.{OrderedTask}
-use Rattle.horizon_formula.specs.Variables.{chain_places}
+use Rattle.formula_defs.specs.Variables.{chain_places}
 use Rattle.step_encoding.specs.Limits.{planner_literals}
 use Rattle.step_encoding.specs.Numbers.{literals_of}
 use Rattle.clause_base.specs.Formula.{Cnf}
@@ -17,15 +17,15 @@ use Rattle.horizon_run.specs.Run.{reached}
 use Rattle.plan_endings.specs.declared.ending.File.{File}
 use Rattle.plan_endings.specs.declared.ending.File.TheVariants.{Domain, Problem, Proof}
 use Rattle.plan_endings.specs.declared.ending.Kind.TheVariants.{Syntax}
-use Rattle.race_end.specs.Ends.{EndView, end_view}
-use Rattle.race_end.specs.declared.end.RaceEnd.{RaceEnd}
+use Rattle.race_outcome.specs.Ends.{EndView, end_view}
+use Rattle.race_outcome.specs.declared.end.RaceEnd.{RaceEnd}
 use Rattle.race.specs.Race as stage
 use Rattle.pd_model.specs.Plan.{verdict}
 use Rattle.pd_model.specs.declared.calls.Call.{Call}
 use Rattle.pd_model.specs.declared.parts.Parts.{Parts}
-use Rattle.grounding_laws.specs.Grounded.{Grounded}
+use Rattle.grounding_defs.specs.Grounded.{Grounded}
 use Rattle.plan_report.specs.Listings.{order_text}
-use Rattle.proof_text.specs.Place.{IsUnfitAt}
+use Rattle.proof_log.specs.Place.{IsUnfitAt}
 use Rattle.plan_gen.specs.declared.Kind.{Kind as Generated}
 use Rattle.plan_gen.specs.Task.{domain_of, problem_of}
 use Rattle.plan_report.specs.Report.{report_of, summary_of}
@@ -40,8 +40,8 @@ use Rattle.plan_endings.specs.declared.ending.Ending.{Ending}
 use Rattle.plan_endings.specs.declared.ending.Ending.TheVariants.{Report, Listing, Refused, TooLong, TooLarge, ReadFault}
 use Rattle.input_files.specs.Limits.{AreShort, most_of, third_of, file_at}
 use Rattle.input_files.specs.Files.{IsFront, AreOf, StopsFrom}
-use Rattle.input_files.proofs.Taking.{taken_short}
-use Rattle.input_files.proofs.Hearing.{front_long, whole_is, taken_are, of_front}
+use Rattle.input_files.proofs.published.Taking.{taken_short}
+use Rattle.input_files.proofs.published.Hearing.{front_long, whole_is, taken_are, of_front}
 use Rattle.gt_core.specs.Published.{IsPublished}
 use Rattle.certificates.specs.Known.{IsOrdered, HasTooMany, form_of, choice_at, formula_at}
 use Rattle.certificates.specs.Proved.{proved_of}
@@ -51,11 +51,11 @@ use Rattle.certificates.specs.declared.verify.Judged.TheVariants as judged
 use Rattle.plan_claims.specs.Laws.{Laws}
 use Rattle.requests.specs.declared.request.Stepping.{Stepping}
 use Rattle.requests.specs.declared.request.Stepping.TheVariants.{Exists}
-use Rattle.plan_answers.specs.Stepping.{places_by, is_plan_by}
-use Rattle.plan_answers.specs.Tasks.{OnceGrounded}
-use Rattle.plan_answers.specs.Raced.{input_of, IsTooLarge, ComesTo, OnceRaced, too_large, ended, outcome_of}
-use Rattle.plan_answers.specs.Generated.{RacesGenerated, generated_line, generated_report}
-use Rattle.plan_answers.specs.Answers.{OfSettings, Decides, AnswersPlan, AnswersGround, AnswersOrder, AnswersCheck, AnswersProve, not_run, run, AnswersProof, not_checked, checked, AnswersVerify, unfit, beyond, spelled, ending_of, refusal_of_plan, ending_of_run, ending_of_check}
+use Rattle.commands.specs.Stepping.{places_by, is_plan_by}
+use Rattle.commands.specs.Tasks.{OnceGrounded}
+use Rattle.commands.specs.Raced.{input_of, IsTooLarge, ComesTo, OnceRaced, too_large, ended, outcome_of}
+use Rattle.commands.specs.Generated.{RacesGenerated, generated_line, generated_report}
+use Rattle.commands.specs.Answers.{OfSettings, Decides, AnswersPlan, AnswersGround, AnswersOrder, AnswersCheck, AnswersProve, not_run, run, AnswersProof, not_checked, checked, AnswersVerify, unfit, beyond, spelled, ending_of, refusal_of_plan, ending_of_run, ending_of_check}
 use Rattle.plan_top.specs.Causes.{HasRead, ComesFor, stopped, decided, IsPartOf, ArePartsOf, IsBatchOf, Comes}
 use Rattle.plan_endings.specs.Ending.{status_of, batch_of}
 use Rattle.plan_top.specs.OneReport.{AreSameRace, AreSameAlone, plans_same, generates_same, checks_same, grounds_same, orders_same, proves_same, verifies_same, AreSame, alone, batches_same, AskForOnePart, OneEnding}

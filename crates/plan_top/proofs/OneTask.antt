@@ -8,17 +8,17 @@ use Rattle.plan_endings.specs.declared.ending.File.TheVariants.{Domain, Problem}
 use Rattle.pd_model.specs.declared.parts.Parts.{Parts}
 use Rattle.pd_task.specs.Reading.{reading}
 use Rattle.gt_core.specs.Lawful.{conditional_in}
-use Rattle.grounding_laws.specs.Grounded.{Grounded, IsGrounded}
-use Rattle.grounding_laws.specs.Limits.{IsWithin}
-use Rattle.grounding_laws.specs.Laws.{OneResult}
-use Rattle.grounding_laws.specs.Tuples.{saturated}
+use Rattle.grounding_defs.specs.Grounded.{Grounded, IsGrounded}
+use Rattle.grounding_defs.specs.Limits.{IsWithin}
+use Rattle.grounding_defs.specs.Laws.{OneResult}
+use Rattle.grounding_defs.specs.Tuples.{saturated}
 use Rattle.plan_endings.specs.declared.ending.Limit.{Limit}
 use Rattle.plan_endings.specs.declared.ending.Limit.TheVariants.{Tuples, Facts, Actions, Effects}
 use Rattle.plan_endings.specs.declared.ending.Kind.{Kind}
 use Rattle.plan_endings.specs.declared.ending.Kind.TheVariants.{Syntax, Deep}
 use Rattle.plan_endings.specs.declared.ending.Ending.{Ending}
 use Rattle.plan_endings.specs.declared.ending.Ending.TheVariants.{Refused, TooMany}
-use Rattle.plan_answers.specs.Tasks.{AreTask, IsTreeFault, RefusesTree, RefusesTrees, RefusesTask, domain_tree, problem_tree, no_task, IsOver, TellsOver, IsReady, StopsTask, refused, past, OnceRead, not_read, read, OnceGrounded, not_grounded, grounded, refusal_of}
+use Rattle.commands.specs.Tasks.{AreTask, IsTreeFault, RefusesTree, RefusesTrees, RefusesTask, domain_tree, problem_tree, no_task, IsOver, TellsOver, IsReady, StopsTask, refused, past, OnceRead, not_read, read, OnceGrounded, not_grounded, grounded, refusal_of}
 
 -- ---- trees and their faults
 

@@ -3,14 +3,14 @@ use Rattle.std.proofs.Common.{◌≡◌, ◌≤◌, ℕ, nat_le, Bool, true, fal
 use Rattle.std.proofs.lemmas.Bool.Decides.{nat_tests}
 use Rattle.pl_io.specs.Outside.{Heard}
 use Rattle.clause_base.specs.declared.log.Entry.{Entry}
-use Rattle.cdcl_rules.specs.State.{State}
-use Rattle.cdcl_rules.specs.declared.standing.Standing.{Standing}
-use Rattle.cdcl_rules.specs.declared.standing.Standing.TheVariants.{Going, Found, Refuted}
+use Rattle.cdcl_defs.specs.State.{State}
+use Rattle.cdcl_defs.specs.declared.standing.Standing.{Standing}
+use Rattle.cdcl_defs.specs.declared.standing.Standing.TheVariants.{Going, Found, Refuted}
 use Rattle.pd_model.specs.declared.parts.Parts.{Parts}
-use Rattle.grounding_laws.specs.Grounded.{Grounded}
-use Rattle.proof_text.specs.Text.{proof_text}
-use Rattle.proof_text.specs.Place.{IsUnfitAt}
-use Rattle.horizon_formula.specs.Variables.{chain_places}
+use Rattle.grounding_defs.specs.Grounded.{Grounded}
+use Rattle.proof_log.specs.Text.{proof_text}
+use Rattle.proof_log.specs.Place.{IsUnfitAt}
+use Rattle.formula_defs.specs.Variables.{chain_places}
 use Rattle.step_encoding.specs.Limits.{planner_literals}
 use Rattle.step_encoding.specs.Numbers.{literals_of}
 use Rattle.step_laws.specs.Form.{OrderedTask}
@@ -29,8 +29,8 @@ use Rattle.plan_endings.specs.declared.ending.Ending.{Ending}
 use Rattle.plan_endings.specs.declared.ending.Ending.TheVariants.{Listing, TooLong, TooLarge, Found as FoundPlan, Open}
 use Rattle.plan_endings.specs.Ending.{status_of}
 use Rattle.input_files.specs.Limits.{file_at}
-use Rattle.plan_answers.specs.Tasks.{IsReady, OnceRead, not_read, read, OnceGrounded, not_grounded, grounded}
-use Rattle.plan_answers.specs.Answers.{AnswersProve, not_run, run, AnswersProof, not_checked, checked, AnswersVerify, unfit, beyond, spelled, ending_of_run, ending_of_check}
+use Rattle.commands.specs.Tasks.{IsReady, OnceRead, not_read, read, OnceGrounded, not_grounded, grounded}
+use Rattle.commands.specs.Answers.{AnswersProve, not_run, run, AnswersProof, not_checked, checked, AnswersVerify, unfit, beyond, spelled, ending_of_run, ending_of_check}
 use Rattle.plan_claims.specs.Laws.{Laws}
 use Rattle.plan_top.specs.Causes.{HasRead, Comes}
 use Rattle.plan_top.specs.OneReport.{AskToVerify}

@@ -12,9 +12,9 @@ use Rattle.pd_model.specs.declared.calls.Verdict.TheVariants as verdicts
 use Rattle.pd_model.specs.declared.parts.Parts.{Parts}
 use Rattle.plan_endings.specs.declared.ending.File.{File}
 use Rattle.plan_endings.specs.declared.ending.File.TheVariants.{Proof}
-use Rattle.grounding_laws.specs.Grounded.{Grounded}
-use Rattle.race_end.specs.declared.end.RaceEnd.{RaceEnd}
-use Rattle.race_end.specs.Ends.{end_view, lines_in}
+use Rattle.grounding_defs.specs.Grounded.{Grounded}
+use Rattle.race_outcome.specs.declared.end.RaceEnd.{RaceEnd}
+use Rattle.race_outcome.specs.Ends.{end_view, lines_in}
 use Rattle.plan_report.specs.Report.{plan_line}
 use Rattle.plan_report.specs.Laws.{Tells}
 use Rattle.requests.specs.Seen.{Seen, Numbers, numbers, plans, plans_by, checks, grounds, orders, generates, proves, verifies, batches, files_of}
@@ -28,17 +28,17 @@ use Rattle.plan_endings.specs.declared.ending.Ending.{Ending}
 use Rattle.plan_endings.specs.declared.ending.Ending.TheVariants.{Report, Listing, Reaches, Blocked, Short, Refused, TooLong, TooMany, TooLarge, ReadFault, Usage, Found, Open, Accepted, Rejected, NotEmpty, Parts as Batched}
 use Rattle.input_files.specs.Limits.{file_at}
 use Rattle.input_files.specs.Files.{AreTaken, StopsFrom, FaultsFrom, RoseAmong}
-use Rattle.input_files.proofs.Hearing.{two_taken, three_taken}
-use Rattle.plan_answers.specs.Stepping.{places_by, is_plan_by}
-use Rattle.plan_answers.specs.Tasks.{AreTask, IsReady, OnceRead, not_read, read, OnceGrounded}
-use Rattle.plan_answers.specs.Raced.{ComesTo}
-use Rattle.plan_answers.specs.Answers.{Decides, AnswersGround, AnswersOrder, AnswersCheck, AnswersProve, not_run, run, AnswersVerify, unfit, beyond, spelled, not_checked, checked, ending_of_run, ending_of_check, ending_of}
+use Rattle.input_files.proofs.published.Hearing.{two_taken, three_taken}
+use Rattle.commands.specs.Stepping.{places_by, is_plan_by}
+use Rattle.commands.specs.Tasks.{AreTask, IsReady, OnceRead, not_read, read, OnceGrounded}
+use Rattle.commands.specs.Raced.{ComesTo}
+use Rattle.commands.specs.Answers.{Decides, AnswersGround, AnswersOrder, AnswersCheck, AnswersProve, not_run, run, AnswersVerify, unfit, beyond, spelled, not_checked, checked, ending_of_run, ending_of_check, ending_of}
 use Rattle.plan_top.specs.Causes.{is_answer, HasRead, ComesFor, stopped, decided, IsPartOf, ArePartsOf, IsBatchOf, ArePartsSo, Comes, no_request, of_one, unread, in_parts, names_in, FaultOf}
-use Rattle.horizon_formula.specs.Variables.{chain_places}
+use Rattle.formula_defs.specs.Variables.{chain_places}
 use Rattle.clause_base.specs.Formula.{Cnf}
 use Rattle.clause_base.specs.Derivation.{IsRefutation}
 use Rattle.clause_base.specs.declared.log.Entry.{Entry}
-use Rattle.proof_text.specs.Text.{spaced, entry_words}
+use Rattle.proof_log.specs.Text.{spaced, entry_words}
 use Rattle.certificates.specs.Known.{form_of, formula_at}
 use Rattle.certificates.specs.Certificate.{IsSpelled, IsCertificate}
 use Rattle.certificates.specs.Proved.{Proves}
@@ -53,11 +53,11 @@ use Rattle.plan_top.specs.OneReport.{AskForOne, AskForOnePart, AskToVerify, AskT
 use Rattle.plan_endings.specs.Ending.{status_of, status_of_race, text_of, greatest, parts_text, batch_of, IsSmall}
 use Rattle.plan_claims.specs.Headline.{Printed, OfFiles, OfThreeFiles, OfPlans, PlanRuns, EveryOrderRuns, HasAtLeast, HasPlanOf, TellsExhausted, NoStepPlan, NoPlan, LineIsSo, SpendsAll, PartIsSo, Certifies, CertifiesNothing, ProvesNone, TellsGround, TellsOrder, AreCallsOfPlan, AreCallsOfNoPlan}
 use Rattle.plan_claims.specs.Laws.{Laws}
-use Rattle.plan_claims.proofs.Claims as claims
-use Rattle.plan_tasks.proofs.Statuses.{six_seven, six_seven_eight}
+use Rattle.plan_claims.proofs.published.Claims as claims
+use Rattle.plan_tasks.proofs.published.Statuses.{six_seven, six_seven_eight}
 use Rattle.plan_top.proofs.Told.{asked_comes, asked_parts, not_asked_comes}
 use Rattle.plan_top.proofs.Reports.{is_stop, stop_says_nothing, printed_is, printed_front, nothing_said}
-use Rattle.plan_claims.proofs.Verdicts.{reaches_is_plan, plan_reaches}
+use Rattle.plan_claims.proofs.published.Verdicts.{reaches_is_plan, plan_reaches}
 use Rattle.plan_top.proofs.Complete.{complete as goes_well}
 use Rattle.plan_top.proofs.OneReport.{one_ending, part_at, has_read}
 use Rattle.plan_top.proofs.Passing.{passes as certificate_passes}

@@ -5,17 +5,17 @@ use Rattle.pl_io.specs.Outside.{Heard}
 use Rattle.report_lines.specs.Horizons.{Says, is_word}
 use Rattle.clause_base.specs.Choice.{Known}
 use Rattle.clause_base.specs.Formula.{Cnf}
-use Rattle.cdcl_rules.specs.Run.{is_going}
-use Rattle.cdcl_rules.specs.State.{State}
-use Rattle.cdcl_rules.specs.declared.standing.Standing.{Standing}
-use Rattle.cdcl_rules.specs.declared.standing.Standing.TheVariants.{Going, Found, Refuted}
+use Rattle.cdcl_defs.specs.Run.{is_going}
+use Rattle.cdcl_defs.specs.State.{State}
+use Rattle.cdcl_defs.specs.declared.standing.Standing.{Standing}
+use Rattle.cdcl_defs.specs.declared.standing.Standing.TheVariants.{Going, Found, Refuted}
 use Rattle.horizon_rates.specs.declared.settings.Settings.{Settings}
 use Rattle.pd_model.specs.declared.parts.Parts.{Parts}
-use Rattle.grounding_laws.specs.Grounded.{Grounded, IsGrounded}
-use Rattle.proof_text.specs.Text.{proof_text}
-use Rattle.horizon_formula.specs.Variables.{chain_places}
+use Rattle.grounding_defs.specs.Grounded.{Grounded, IsGrounded}
+use Rattle.proof_log.specs.Text.{proof_text}
+use Rattle.formula_defs.specs.Variables.{chain_places}
 use Rattle.horizon_run.specs.Run.{reached, Stays}
-use Rattle.race_end.specs.Ends.{Word, WordRefuted, WordDropped, WordOpen, WordPlan, end_view}
+use Rattle.race_outcome.specs.Ends.{Word, WordRefuted, WordDropped, WordOpen, WordPlan, end_view}
 use Rattle.plan_report.specs.Report.{word_text}
 use Rattle.step_encoding.specs.Limits.{planner_literals}
 use Rattle.step_encoding.specs.Numbers.{literals_of}
@@ -31,13 +31,13 @@ use Rattle.plan_endings.specs.declared.ending.Ending.{Ending}
 use Rattle.plan_endings.specs.Ending.{text_of}
 use Rattle.plan_endings.specs.declared.ending.Ending.TheVariants.{Report, Listing, TooLong, Found as FoundPlan}
 use Rattle.input_files.specs.Limits.{file_at}
-use Rattle.plan_answers.specs.Stepping.{places_by}
-use Rattle.plan_answers.specs.Tasks.{IsReady, OnceGrounded, not_grounded, grounded}
-use Rattle.plan_answers.specs.Raced.{input_of}
-use Rattle.plan_answers.specs.Answers.{AnswersProve, not_run, run, ending_of_run}
+use Rattle.commands.specs.Stepping.{places_by}
+use Rattle.commands.specs.Tasks.{IsReady, OnceGrounded, not_grounded, grounded}
+use Rattle.commands.specs.Raced.{input_of}
+use Rattle.commands.specs.Answers.{AnswersProve, not_run, run, ending_of_run}
 use Rattle.plan_claims.specs.Headline.{OfGrounded, IsSo, LineIsSo, standing_of}
 use Rattle.plan_claims.specs.Laws.{Laws}
-use Rattle.plan_claims.proofs.Claims as claims
+use Rattle.plan_claims.proofs.published.Claims as claims
 use Rattle.plan_top.specs.Causes.{HasRead, Comes}
 use Rattle.plan_top.specs.OneReport.{AskToProve}
 use Rattle.plan_top.proofs.Fits.{line_fits}

@@ -6,11 +6,11 @@ use Rattle.step_laws.specs.Form.{OrderedTask}
 use Rattle.horizon_rates.specs.declared.rates.Rates.{Rates}
 use Rattle.horizon_rates.specs.declared.settings.Settings.{Settings}
 use Rattle.gt_core.specs.Step.{IsStepPlan}
-use Rattle.horizon_formula.specs.Variables.{chain_places}
+use Rattle.formula_defs.specs.Variables.{chain_places}
 use Rattle.step_encoding.specs.Numbers.{literals_of}
 use Rattle.step_encoding.specs.declared.form.StepForm.{Ghosts}
-use Rattle.race_end.specs.declared.end.RaceEnd.{RaceEnd}
-use Rattle.race_end.specs.Ends.{end_view, lines_of}
+use Rattle.race_outcome.specs.declared.end.RaceEnd.{RaceEnd}
+use Rattle.race_outcome.specs.Ends.{end_view, lines_of}
 use Rattle.race.specs.Race as stage
 use Rattle.race.specs.Input.{RaceInput, input_of as race_input}
 use Rattle.race.specs.Begun.{IsEndOf}
@@ -19,11 +19,11 @@ use Rattle.race.specs.declared.error.RaceError.TheVariants as errors
 use Rattle.poll_batch.specs.View.{RaceView, Gives}
 use Rattle.race.specs.Lines.{AreLines, EachRefuted}
 use Rattle.race.specs.Ends.{WherePlanned, AreActions, AreStepsOf, SumsWithin}
-use Rattle.plan_answers.specs.Raced.{input_of, ArePlan}
-use Rattle.plan_top.specs.Parts.{IsRaceOf, CameTo}
+use Rattle.commands.specs.Raced.{input_of, ArePlan}
+use Rattle.plan_top.specs.own.Parts.{IsRaceOf, CameTo}
 use Rattle.plan_top.specs.declared.parts.Run.{Run}
 use Rattle.plan_top.proofs.Lists.{zip_both}
-use Rattle.plan_answers.proofs.RaceEnds.{comes_to, too_large_to}
+use Rattle.commands.proofs.published.RaceEnds.{comes_to, too_large_to}
 
 -- What the polled race of a run comes to, over a form with the input, the plans and the task of one of exists-steps.
 module _ (g : Ghosts OrderedTask) (inputs : (form : OrderedTask) (settings : Settings) → race_input g form settings ≡ input_of chain_places form settings) (plans : g.is_plan ≡ ArePlan chain_places IsStepPlan)

@@ -7,10 +7,10 @@ use Rattle.horizon_rates.specs.declared.settings.Settings.{Settings}
 use Rattle.pd_model.specs.declared.parts.Parts.{Parts}
 use Rattle.plan_endings.specs.declared.ending.File.{File}
 use Rattle.pd_plan.specs.Fault as plan
-use Rattle.grounding_laws.specs.Grounded.{Grounded}
-use Rattle.race_end.specs.declared.end.RaceEnd.{RaceEnd}
-use Rattle.race_end.specs.declared.end.RaceEnd.TheVariants as races
-use Rattle.race_end.specs.Ends.{end_view, lines_in}
+use Rattle.grounding_defs.specs.Grounded.{Grounded}
+use Rattle.race_outcome.specs.declared.end.RaceEnd.{RaceEnd}
+use Rattle.race_outcome.specs.declared.end.RaceEnd.TheVariants as races
+use Rattle.race_outcome.specs.Ends.{end_view, lines_in}
 use Rattle.plan_report.specs.Report.{report_of}
 use Rattle.plan_report.specs.Laws.{IsSmall as IsSmallReport, HasCalls, Tells}
 use Rattle.requests.specs.Seen.{numbers}
@@ -18,16 +18,16 @@ use Rattle.requests.specs.declared.request.Stepping.{Stepping}
 use Rattle.plan_endings.specs.declared.ending.Ending.{Ending}
 use Rattle.plan_endings.specs.declared.ending.Ending.TheVariants.{Report}
 use Rattle.input_files.specs.Files.{StopsFrom}
-use Rattle.plan_answers.specs.Stepping.{places_by, is_plan_by}
-use Rattle.plan_answers.specs.Tasks.{AreTask, RefusesTask, IsReady, StopsTask, refused, past, OnceGrounded, not_grounded, grounded}
-use Rattle.plan_answers.specs.Raced.{ComesTo, too_large, ended, outcome_of}
-use Rattle.plan_answers.specs.Answers.{AnswersPlan, refusal_of_plan}
+use Rattle.commands.specs.Stepping.{places_by, is_plan_by}
+use Rattle.commands.specs.Tasks.{AreTask, RefusesTask, IsReady, StopsTask, refused, past, OnceGrounded, not_grounded, grounded}
+use Rattle.commands.specs.Raced.{ComesTo, too_large, ended, outcome_of}
+use Rattle.commands.specs.Answers.{AnswersPlan, refusal_of_plan}
 use Rattle.requests.specs.declared.request.Stepping.TheVariants.{All}
 use Rattle.plan_endings.specs.Ending.{status_of, status_of_race, text_of}
 use Rattle.plan_claims.specs.Headline.{PlanRuns, EveryOrderRuns, TellsExhausted, SpendsAll}
 use Rattle.plan_claims.specs.Laws.{Laws}
-use Rattle.plan_claims.proofs.Claims as claims
-use Rattle.plan_claims.proofs.EveryOrder.{every_order}
+use Rattle.plan_claims.proofs.published.Claims as claims
+use Rattle.plan_claims.proofs.published.EveryOrder.{every_order}
 use Rattle.plan_top.proofs.Told.{task_refusal}
 use Rattle.plan_top.proofs.Reports.{is_stop, stop_status}
 

@@ -8,7 +8,7 @@ use Rattle.pl_io.specs.Outside.{TakesFront}
 use Rattle.report_lines.specs.Lines.{is_line, joined}
 use Rattle.report_lines.specs.Horizons.{Says, IsEntry, is_word, is_remark}
 use Rattle.report_lines.specs.Laws.{ReportsSayEntries}
-use Rattle.report_lines.proofs.Entries.{line-append, word_line, decimal_word}
+use Rattle.report_lines.proofs.published.Entries.{line-append, word_line, decimal_word}
 use Rattle.plan_endings.specs.declared.ending.File.{File}
 use Rattle.plan_endings.specs.declared.ending.File.TheVariants.{Domain, Problem, Plan, Proof}
 use Rattle.plan_endings.specs.declared.ending.Kind.{Kind}
@@ -19,8 +19,8 @@ use Rattle.plan_endings.specs.declared.ending.Ending.{Ending}
 use Rattle.plan_endings.specs.declared.ending.Ending.TheVariants.{Report, Listing, Reaches, Blocked, Short, Refused, TooLong, TooMany, TooLarge, ReadFault, Usage, Found, Open, Accepted, Rejected, NotEmpty, Parts}
 use Rattle.plan_endings.specs.Ending.{status_of, text_of, line_of, kind_word, limit_word, word_of, IsSmall}
 use Rattle.plan_claims.specs.Headline.{Printed}
-use Rattle.plan_tasks.proofs.Printing.{front_cancels}
-pub use Rattle.plan_tasks.proofs.Printing.{printed_is}
+use Rattle.plan_tasks.proofs.published.Printing.{front_cancels}
+pub use Rattle.plan_tasks.proofs.published.Printing.{printed_is}
 
 -- ---- endings that stop a run
 

@@ -11,7 +11,7 @@ use Rattle.pd_model.specs.declared.parts.Parts.{Parts}
 use Rattle.pd_task.specs.declared.error.PddlError.{PddlError}
 use Rattle.pd_task.specs.declared.error.PddlError.TheVariants as errors
 use Rattle.pd_plan.specs.Fault as plan
-use Rattle.grounding_laws.specs.Grounded.{Grounded}
+use Rattle.grounding_defs.specs.Grounded.{Grounded}
 use Rattle.plan_gen.specs.declared.Kind.{Kind as Generated}
 use Rattle.plan_gen.specs.Task.{domain_of, problem_of}
 use Rattle.requests.specs.Seen.{Seen, Numbers, plans_by, checks, grounds, orders, generates, proves, verifies, batches, files_of}
@@ -33,10 +33,10 @@ use Rattle.certificates.specs.declared.prove.Proved.{Proved}
 use Rattle.certificates.specs.declared.prove.Proved.TheVariants as proved
 use Rattle.certificates.specs.declared.verify.Judged.{Judged}
 use Rattle.certificates.specs.declared.verify.Judged.TheVariants as judged
-use Rattle.plan_answers.specs.Tasks.{RefusesTask, domain_tree, problem_tree, no_task, input_of, refusal_of, OnceRead, not_read, read, refused, past, OnceGrounded, not_grounded, grounded}
-use Rattle.plan_answers.specs.Raced.{too_large, ended}
-use Rattle.plan_answers.specs.Generated.{AnswersGenerated, RacesGenerated}
-use Rattle.plan_answers.specs.Answers.{OfTwo, OfThree, Decides, AnswersPlan, AnswersGround, AnswersOrder, AnswersCheck, AnswersProve, not_run, run, AnswersVerify, unfit, beyond, spelled, not_checked, checked, ending_of_run, ending_of_check, refusal_of_plan, ending_of}
+use Rattle.commands.specs.Tasks.{RefusesTask, domain_tree, problem_tree, no_task, input_of, refusal_of, OnceRead, not_read, read, refused, past, OnceGrounded, not_grounded, grounded}
+use Rattle.commands.specs.Raced.{too_large, ended}
+use Rattle.commands.specs.Generated.{AnswersGenerated, RacesGenerated}
+use Rattle.commands.specs.Answers.{OfTwo, OfThree, Decides, AnswersPlan, AnswersGround, AnswersOrder, AnswersCheck, AnswersProve, not_run, run, AnswersVerify, unfit, beyond, spelled, not_checked, checked, ending_of_run, ending_of_check, refusal_of_plan, ending_of}
 use Rattle.plan_top.specs.Causes.{is_answer, HasRead, ComesFor, decided, IsBatchOf, AskForBatch, Comes, no_request, of_one, unread, in_parts}
 
 -- ---- endings that tell of a file

@@ -9,7 +9,7 @@ use Rattle.std.proofs.lemmas.List.Sums.{sum_by-append}
 use Rattle.requests.specs.declared.request.Turns.{Turns}
 use Rattle.requests.specs.declared.request.Turns.TheVariants.{Forward, Backward}
 use Rattle.poll_batch.specs.Batch.{IsOrder}
-use Rattle.plan_top.specs.Parts.{turn_at}
+use Rattle.plan_top.specs.own.Parts.{turn_at}
 
 -- the places of the first turns
 abbrev pub first_turns : Turns → ℕ → ℕ → List ℕ

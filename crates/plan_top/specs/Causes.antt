@@ -8,7 +8,7 @@ use Rattle.requests.specs.OneTask.{IsOfOne}
 use Rattle.plan_endings.specs.Ending.{batch_of, status_of, text_of}
 use Rattle.plan_claims.specs.Headline.{PartIsSo}
 use Rattle.input_files.specs.Limits.{file_at}
-use Rattle.plan_answers.specs.Answers.{Decides}
+use Rattle.commands.specs.Answers.{Decides}
 use Rattle.input_files.specs.Files.{AreTaken, StopsFrom, FaultsFrom, RoseAmong}
 use Rattle.plan_endings.specs.declared.ending.File.TheVariants.{Proof}
 use Rattle.plan_endings.specs.declared.ending.Ending.{Ending}
@@ -65,6 +65,7 @@ pub record IsPartOf (old new : List (List ℕ)) (first other : Heard) (request :
 
 -- Each problem of a batch, with the domain alone, comes to the part at its place as `plan` comes to its ending.
 module _ (old new : List (List ℕ)) (domain : List ℕ) (numbers : Numbers) (first : Heard) where
+  -- each problem has its part, which comes as for `plan` on the domain and it
   abbrev pub ArePartsOf : List (List ℕ) → List Heard → List Ending → Type 0
   ArePartsOf [] [] [] = Unit {0}
   ArePartsOf (problem ∷ problems) (other ∷ others) (part ∷ parts) = IsPartOf old new first other (plans domain problem numbers) part × ArePartsOf problems others parts
@@ -102,6 +103,7 @@ FaultOf old new words = RoseAmong (names_in words) old new
 
 -- Each part of a batch but those that tell why there is no answer keeps what is promised of `plan` on the domain and its problem.
 module _ (domain : List ℕ) (numbers : Numbers) (first : Heard) where
+  -- of each part with a status up to 2 what is promised of the text of `plan` holds
   abbrev pub ArePartsSo : List (List ℕ) → List Heard → List Ending → Type 0
   ArePartsSo [] [] [] = Unit {0}
   ArePartsSo (problem ∷ problems) (other ∷ others) (part ∷ parts) =

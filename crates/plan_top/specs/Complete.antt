@@ -5,17 +5,17 @@ use Rattle.pl_io.specs.Outside.{Heard}
 use Rattle.pd_model.specs.declared.calls.Call.{Call}
 use Rattle.pd_model.specs.declared.parts.Parts.{Parts}
 use Rattle.pd_plan.specs.PlanFile.{plan_file}
-use Rattle.grounding_laws.specs.Grounded.{Grounded, IsGrounded}
-use Rattle.grounding_laws.specs.Limits.{IsWithin}
+use Rattle.grounding_defs.specs.Grounded.{Grounded, IsGrounded}
+use Rattle.grounding_defs.specs.Limits.{IsWithin}
 use Rattle.plan_gen.specs.Task.{domain_of, problem_of}
 use Rattle.requests.specs.Seen.{Seen, plans, plans_by, checks, grounds, orders, generates, proves, verifies, batches, files_of}
 use Rattle.requests.specs.Requested.{requested}
 use Rattle.input_files.specs.Limits.{AreShort, file_at}
 use Rattle.input_files.specs.Files.{AreOf, RoseAmong}
-use Rattle.plan_answers.specs.Tasks.{AreTask}
+use Rattle.commands.specs.Tasks.{AreTask}
 use Rattle.clause_base.specs.declared.log.Entry.{Entry}
 use Rattle.certificates.specs.Certificate.{IsSpelled}
-use Rattle.plan_answers.specs.Answers.{OfTwo, OfThree}
+use Rattle.commands.specs.Answers.{OfTwo, OfThree}
 use Rattle.plan_endings.specs.Ending.{status_of, batch_of}
 use Rattle.plan_endings.specs.declared.ending.Ending.{Ending}
 use Rattle.plan_endings.specs.declared.ending.Ending.TheVariants.{TooLarge, TooLong}

@@ -1,4 +1,4 @@
 pub mod Causes
-pub mod Parts
 pub mod Complete
 pub mod OneReport
+pub mod own

@@ -3,21 +3,21 @@ ghost use Rattle.std.specs.Prelude.{◌≡◌, ◌≤◌, ◌∷◌, List, Optio
 ghost use Rattle.std.specs.List.{AllByRecursion, AllZip};
 ghost use Rattle.plan_endings.specs.Ending.{batch_of};
 ghost use Rattle.plan_endings.specs.declared.ending.Ending.{Ending};
-ghost use Rattle.plan_top.specs.Parts.{IsShort, IsSound, CameTo, AnswersRun, AnswersBatch, open_in, woven};
+ghost use Rattle.plan_top.specs.own.Parts.{IsShort, IsSound, CameTo, AnswersRun, AnswersBatch, open_in, woven};
 ghost use Rattle.input_files.specs.Ends.{EndsAs, OnlyMemory};
 
 use crate::Ending;
 use crate::parts::{Run, parts_of};
 use crate::races::raced_all;
+use commands::reported::reported;
 use horizon_rates::Settings;
 use input_files::first::take_first;
 use input_files::stop::Stop;
 use pl_io::Bytes;
-use plan_answers::reported::reported;
 use plan_endings::Growing;
 use poll_batch::Driver;
 use race::RaceError;
-use race_end::RaceEnd;
+use race_outcome::RaceEnd;
 use requests::Turns;
 use std::alloc::Global;
 use std::sync::Wait;

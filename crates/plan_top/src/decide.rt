@@ -10,11 +10,11 @@ ghost use Rattle.input_files.specs.Ends.{EndsAs};
 
 use crate::Ending;
 use crate::batch::answer_batch;
+use commands::answer::answer;
 use input_files::first::take_first;
 use input_files::stop::Stop;
 use input_files::take::take_all;
 use pl_io::{Bytes, Shelf};
-use plan_answers::answer::answer;
 use poll_batch::Driver;
 use requests::{Request, read_words};
 use solver_pool::Gate;

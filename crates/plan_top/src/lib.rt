@@ -1,5 +1,8 @@
 //! The planner's top call: from the words of a command line and the bytes of files to a report and an
 //! exit status.
+//!
+//! `top` has the top call, `decide` the ending of a run, `batch` the command `batch`, with `parts` (its problems before their races) and `races`.
+//! `specs/Causes.antt` says when each ending comes, and `proofs/Promises.antt` that the promises follow from that cause.
 #![tactic(auto)]
 
 mod batch;

@@ -3,16 +3,16 @@ ghost use Rattle.std.specs.Prelude.{◌≡◌, ◌≤◌, ◌++◌, ◌∷◌, �
 ghost use Rattle.std.specs.List.{AllByRecursion};
 ghost use Rattle.pd_sexp.specs.{Fault.Reads, View.view, Word.has_words};
 ghost use Rattle.input_files.specs.Limits.{most_bytes};
-ghost use Rattle.plan_answers.specs.Tasks.{IsReading};
-ghost use Rattle.plan_top.specs.Parts.{IsShort, IsFirst, HasWords, EndsAlone, IsRunOf, IsPart, ArePrepared};
+ghost use Rattle.commands.specs.Tasks.{IsReading};
+ghost use Rattle.plan_top.specs.own.Parts.{IsShort, IsFirst, HasWords, EndsAlone, IsRunOf, IsPart, ArePrepared};
 ghost use Rattle.input_files.specs.Ends.{OnlyMemory};
 ghost use Rattle.plan_endings.specs.declared.ending.Ending.{Ending};
 
 use crate::{Ending, File};
+use commands::raced::{Known, known_of};
 use input_files::stop::Stop;
 use pd_sexp::Tree;
 use pl_io::Bytes;
-use plan_answers::raced::{Known, known_of};
 use plan_tasks::ready::{Ready, ready_with};
 use plan_tasks::task::{Reading, reading_of};
 use std::alloc::Global;
@@ -24,7 +24,7 @@ pub struct Run {
     pub known: Known,
 }
 
-/// Letting one go is one call, in which its parts go: whoever holds one proves one step.
+/// All parts are let go in one call, so that a proof has one step for it and not one for each part.
 impl Drop for Run {
     fn drop(self) {
         let Run { ready: _, known: _ } = self;
@@ -48,7 +48,7 @@ pub struct Prepared {
     pub runs: Vec<Run>,
 }
 
-/// Letting one go is one call, in which its parts go: whoever holds one proves one step.
+/// All parts are let go in one call, so that a proof has one step for it and not one for each part.
 impl Drop for Prepared {
     fn drop(self) {
         let Prepared { ended: _, runs: _ } = self;

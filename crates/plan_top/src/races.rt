@@ -2,7 +2,7 @@
 ghost use Rattle.std.specs.Prelude.{◌≡◌, ◌≤◌, ◌<◌, length, IfOk};
 ghost use Rattle.std.specs.List.{AllByRecursion, AllZip};
 ghost use Rattle.poll_batch.specs.Batch.{IsOrder};
-ghost use Rattle.plan_top.specs.Parts.{IsSound, IsFormOf, IsRaceOf, CameTo, turn_at};
+ghost use Rattle.plan_top.specs.own.Parts.{IsSound, IsFormOf, IsRaceOf, CameTo, turn_at};
 ghost use Rattle.input_files.specs.Ends.{OnlyMemory};
 
 use crate::parts::Run;

@@ -4,14 +4,14 @@ use Rattle.std.proofs.lemmas.List.{length-append}
 use Rattle.std.specs.Option.{IsSomeAnd}
 use Rattle.horizon_run.specs.Run.{RunView}
 use Rattle.race.specs.Input.{RaceInput}
-use Rattle.race.proofs.Advances.{length-moved}
+use Rattle.race.proofs.published.Advances.{length-moved}
 use Rattle.poll_batch.specs.declared.phase.Phase.{Phase}
 use Rattle.poll_batch.specs.declared.phase.Phase.TheVariants.{Between, Within, Given}
 use Rattle.poll_batch.specs.declared.round.Round.{Round}
 use Rattle.poll_batch.specs.declared.work.Work.{Work}
-use Rattle.poll_batch.specs.Numbers.{Numbers, IsBelow, IsBounded, polls_left}
-use Rattle.poll_batch.specs.Works.{at_targets, granted_now, AreAtWork}
-use Rattle.poll_batch.specs.Tied.{IsTied, IsWithin, numbers_at}
+use Rattle.poll_batch.specs.own.Numbers.{Numbers, IsBelow, IsBounded, polls_left}
+use Rattle.poll_batch.specs.own.Works.{at_targets, granted_now, AreAtWork}
+use Rattle.poll_batch.specs.own.Tied.{IsTied, IsWithin, numbers_at}
 
 -- of a race that is further fewer polls are left
 falls : (budget : ℕ) (m n : Numbers) → IsBelow m n → IsBounded budget n → polls_left budget n < polls_left budget m

@@ -2,7 +2,7 @@
 use Rattle.std.proofs.Common.{arith, ◌≡◌, ◌<◌, List, [], ◌∷◌, ◌++◌, length, drop, slice_set, slice_index_or, Option, Some, None, refl, sym, ap, ◌∙◌}
 use Rattle.horizon_run.specs.Run.{RunView, moved_to}
 use Rattle.poll_batch.specs.declared.work.Work.{Work}
-use Rattle.poll_batch.specs.Works.{at_targets}
+use Rattle.poll_batch.specs.own.Works.{at_targets}
 
 pub targets-first : (w : Work) (ws : List Work) (r : RunView) → w.poll.run ≡ Some r → at_targets (w ∷ ws) ≡ moved_to r w.poll.target ∷ at_targets ws
 targets-first w ws r e = ap (λ (o : Option RunView). elim o [ Some x ↦ moved_to x w.poll.target ∷ at_targets ws | None ↦ at_targets ws ]) e

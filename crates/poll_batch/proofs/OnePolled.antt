@@ -6,9 +6,9 @@ use Rattle.horizon_run.specs.contracts.turns.StartedResume.TheImpl.{ghosts}
 use Rattle.poll_run.specs.PolledRun.{next_granted}
 use Rattle.poll_run.specs.Polls.{Polling, GoesNext, Spends}
 use Rattle.poll_batch.specs.declared.work.Work.{Work}
-use Rattle.poll_batch.specs.Numbers.{Numbers}
-use Rattle.poll_batch.specs.OnePoll.{GoesBy, PollsRun}
-use Rattle.poll_batch.specs.Works.{IsAtWork, polls_of}
+use Rattle.poll_batch.specs.own.Numbers.{Numbers}
+use Rattle.poll_batch.specs.own.OnePoll.{GoesBy, PollsRun}
+use Rattle.poll_batch.specs.own.Works.{IsAtWork, polls_of}
 
 -- a run that found memory is where one slice more has it
 moved-by : (slice target : ℕ) (r x : RunView) → GoesNext ghosts slice target r x → x.spoilt ≡ false → x ≡ moved_to r (next_granted slice target r.granted)

@@ -8,7 +8,7 @@ use Rattle.race.specs.declared.begun.Begun.{Begun}
 use Rattle.race.specs.Begun.{HasRun}
 use Rattle.race.specs.Input.{RaceInput}
 use Rattle.poll_batch.specs.declared.work.Work.{Work}
-use Rattle.poll_batch.specs.Works.{at_targets}
+use Rattle.poll_batch.specs.own.Works.{at_targets}
 use Rattle.poll_batch.proofs.Lists.{targets-first}
 
 -- a run of the same horizon and origin is at the same place at its target

@@ -7,7 +7,7 @@ use Rattle.race.specs.Input.{input_of}
 use Rattle.race.specs.Tied.{race_state}
 use Rattle.poll_batch.specs.declared.phase.Phase.{Phase}
 use Rattle.poll_batch.specs.declared.phase.Phase.TheVariants.{Between, Within, Given}
-use Rattle.poll_batch.specs.Tied.{IsTied, is_given, numbers_at, runs_at, spent_at, lines_at}
+use Rattle.poll_batch.specs.own.Tied.{IsTied, is_given, numbers_at, runs_at, spent_at, lines_at}
 use Rattle.poll_batch.specs.View.{RaceView, Stands}
 
 -- the race that is seen in a phase

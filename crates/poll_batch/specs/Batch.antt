@@ -2,7 +2,7 @@
 use Rattle.std.specs.Prelude.{◌≡◌, ℕ, ◌<◌, nat_eq, count_by, List, Result}
 use Rattle.std.specs.List.{All}
 use Rattle.step_encoding.specs.declared.form.StepForm.{Ghosts}
-use Rattle.race_end.specs.declared.end.RaceEnd.{RaceEnd}
+use Rattle.race_outcome.specs.declared.end.RaceEnd.{RaceEnd}
 use Rattle.race.specs.declared.error.RaceError.{RaceError}
 use Rattle.race.specs.Begun.{Gives}
 use Rattle.poll_batch.specs.View.{RaceView}

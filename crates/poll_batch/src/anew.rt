@@ -4,11 +4,11 @@ ghost use Rattle.std.specs.List.{AllByRecursion, AllZip};
 ghost use Rattle.poll_batch.specs.Batch.{IsFormed, IsKeptOf, KeptGives};
 
 use crate::PollRace;
-use clause_base::memory::Memory;
+use containers::memory::Memory;
 use gt_core::task::Task;
 use horizon_rates::Settings;
 use race::{RaceError, race};
-use race_end::RaceEnd;
+use race_outcome::RaceEnd;
 use solver_pool::OpenGate;
 use std::alloc::Global;
 use std::sync::Wait;

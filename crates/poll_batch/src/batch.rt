@@ -6,11 +6,11 @@ ghost use Rattle.poll_batch.specs.Batch.{IsOrder};
 
 use crate::PollRace;
 use crate::anew::{kept_of, run_anew};
-use clause_base::memory::Memory;
 use containers::ListOf;
+use containers::memory::Memory;
 use poll_run::{Driver, TurnsError, drive_in_turns};
 use race::RaceError;
-use race_end::RaceEnd;
+use race_outcome::RaceEnd;
 use std::alloc::Global;
 use std::sync::Wait;
 use std::thread::Threads;

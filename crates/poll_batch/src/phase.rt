@@ -4,16 +4,16 @@ ghost use Rattle.futures.specs.Task.{Keeps};
 ghost use Rattle.race.specs.Begun.{TellsLarge};
 ghost use Rattle.race.specs.Input.{input_of};
 ghost use Rattle.race.specs.Tied.{IsBetween};
-ghost use Rattle.poll_batch.specs.Tied.{is_given, IsWithin, IsTied, Follows};
+ghost use Rattle.poll_batch.specs.own.Tied.{is_given, IsWithin, IsTied, Follows};
 
 use crate::round::Round;
 use crate::work::works_of;
-use clause_base::memory::Memory;
+use containers::memory::Memory;
 use futures::task::Context;
 use gt_core::task::Task;
 use horizon_rates::Settings;
 use race::{Opening, RaceError, Racing, Step, jobs_of};
-use race_end::RaceEnd;
+use race_outcome::RaceEnd;
 use std::alloc::Global;
 use step_encoding::form::StepForm;
 

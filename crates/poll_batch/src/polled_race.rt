@@ -2,19 +2,19 @@
 ghost use Rattle.std.specs.Prelude.{⊤, ◌≡◌, ◌≤◌, ◌<◌, [], false, IfOk};
 ghost use Rattle.futures.specs.Poll.{IfReady, OnPending};
 ghost use Rattle.futures.specs.Task.{Covers, Keeps};
-ghost use Rattle.poll_batch.specs.Numbers.{IsBelow, polls_left};
-ghost use Rattle.poll_batch.specs.OnePoll.{DoesOne};
+ghost use Rattle.poll_batch.specs.own.Numbers.{IsBelow, polls_left};
+ghost use Rattle.poll_batch.specs.own.OnePoll.{DoesOne};
 ghost use Rattle.poll_batch.specs.View.{RaceView, Gives, Stands};
 
 use crate::phase::{Next, Phase, next_phase, put};
-use clause_base::memory::Memory;
+use containers::memory::Memory;
 use futures::Future;
 use futures::task::{Context, Poll};
 use gt_core::task::Task;
 use horizon_rates::{Rates, Settings};
 use poll_run::Bounded;
 use race::{RaceError, Racing};
-use race_end::RaceEnd;
+use race_outcome::RaceEnd;
 use std::alloc::Global;
 use std::marker::Model;
 use std::mem;
@@ -33,7 +33,7 @@ pub struct PollRace<'a, F: StepForm> {
 impl<'a, F: StepForm> Model for PollRace<'a, F> {
     ghost use Rattle.std.specs.Prelude.{◌≡◌};
     ghost use Rattle.race.specs.Input.{input_of};
-    ghost use Rattle.poll_batch.specs.Tied.{IsTied, numbers_at, runs_at, spent_at, lines_at, is_given};
+    ghost use Rattle.poll_batch.specs.own.Tied.{IsTied, numbers_at, runs_at, spent_at, lines_at, is_given};
     ghost use Rattle.poll_batch.specs.View.{RaceView};
 
     ghost Value = { RaceView F };
@@ -157,7 +157,7 @@ impl<'a, F: StepForm> Future for PollRace<'a, F> {
 
 /// A race is ready after finitely many polls: each round that ends spends at least one conflict of the budget.
 impl<'a, F: StepForm> Bounded for PollRace<'a, F> {
-    ghost use Rattle.poll_batch.specs.Numbers.{polls_left};
+    ghost use Rattle.poll_batch.specs.own.Numbers.{polls_left};
 
     ghost polls_left = { λ race. polls_left race.settings.budget race.stage };
 

@@ -3,10 +3,13 @@ ghost use Rattle.std.specs.Prelude.{◌≡◌, ◌≤◌, ◌<◌, ◌∷◌, fa
 ghost use Rattle.futures.specs.Task.{Keeps};
 ghost use Rattle.horizon_run.specs.Run.{moved_to};
 ghost use Rattle.race.specs.Input.{input_of};
-ghost use Rattle.poll_batch.specs.{Numbers.IsBelow, OnePoll.PollsRun, Tied.IsWithin, Tied.numbers_of, Works.polls_of};
+ghost use Rattle.poll_batch.specs.own.Numbers.{IsBelow};
+ghost use Rattle.poll_batch.specs.own.OnePoll.{PollsRun};
+ghost use Rattle.poll_batch.specs.own.Tied.{IsWithin, numbers_of};
+ghost use Rattle.poll_batch.specs.own.Works.{polls_of};
 
 use crate::work::Work;
-use clause_base::memory::Memory;
+use containers::memory::Memory;
 use futures::Future;
 use futures::task::{Context, Poll};
 use horizon_rates::Settings;

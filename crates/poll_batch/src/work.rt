@@ -2,9 +2,9 @@
 ghost use Rattle.std.specs.Prelude.{◌≡◌, ◌≤◌, false, map, IfOk};
 ghost use Rattle.std.specs.List.{AllByRecursion};
 ghost use Rattle.race.specs.Runs.{run_at};
-ghost use Rattle.poll_batch.specs.Works.{at_targets, AreAtWork};
+ghost use Rattle.poll_batch.specs.own.Works.{at_targets, AreAtWork};
 
-use clause_base::memory::Memory;
+use containers::memory::Memory;
 use horizon_run::Started;
 use poll_run::PollRun;
 use solver_pool::{Job, Resume};

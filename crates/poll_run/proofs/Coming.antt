@@ -56,19 +56,3 @@ module _ {R : Type 0} (g : Ghosts R) (by_state : (r : R) → g.unsettled_at (g.s
       let moved = moved_on slice target x r next sound in
       let off : goes_on g target (g.origin_of x) k ≡ false = tells target k (g.origin_of x) r moved (next.1 sound) ∙ stops target (g.granted_of r) (g.unsettled_at r) (λ more lt. stop (more, sound, lt)) in
       (refl, (moved, subst (λ (b : Bool). MatchBool b (AfterPolls g slice target (g.origin_of x) k []) (◌≡◌ {A = List R} [] [])) (sym off) refl))
-
-  -- a poll that is not the last
-  pub further : (slice target : ℕ) (x r : R) → GoesNext g slice target x r → GoesOn g target r → (ss : List R) → Passes g slice target r ss
-      → Passes g slice target x (g.state_of x ∷ ss)
-  further slice target x r next on [] rest = absurd rest
-  further slice target x r next on (s ∷ ss) rest =
-      let k = next_granted slice target (g.granted_of x) in
-      let sound = on.1 in
-      let moved = moved_on slice target x r next sound in
-      let lt = on.2 in
-      let below : nat_lt (g.granted_of r) target ≡ true = grind (arith, nat_tests, lt) in
-      let goes : goes_on g target (g.origin_of x) k ≡ true =
-      tells target k (g.origin_of x) r moved (next.1 sound) ∙ (ap (λ (b : Bool). if b then nat_lt (g.granted_of r) target else false) on.0 ∙ below) in
-      let after = subst (λ (o : R). AfterPolls g slice target o (g.granted_of r) ss) next.0.1 rest.1 in
-      let there = subst (λ (n : ℕ). AfterPolls g slice target (g.origin_of x) n ss) (next.1 sound) after in
-      (refl, (rest.0 ∙ moved, subst (λ (b : Bool). MatchBool b (AfterPolls g slice target (g.origin_of x) k ss) (ss ≡ [])) (sym goes) there))

@@ -4,7 +4,7 @@ use Rattle.std.specs.List.{AllByRecursion, Contains}
 use Rattle.futures.specs.Joined.{IsLive, IsDone}
 use Rattle.futures.specs.declared.future.made.maybe_done.MaybeDone.{MaybeDone}
 use Rattle.futures.specs.declared.future.made.maybe_done.MaybeDone.TheVariants.{Future, Done, Gone}
-use Rattle.poll_run.specs.Turns.{AreAllPlaces, slot_left, slots_left, Falls, FallAt}
+use Rattle.poll_run.specs.own.Turns.{AreAllPlaces, slot_left, slots_left, Falls, FallAt}
 
 same_test : (m n : ℕ) → (m == n) ≡ true → m ≡ n
 same_test m n e = grind (arith, e)

@@ -1,3 +1,3 @@
 pub mod PolledRun
 pub mod Polls
-pub mod Turns
+pub mod own

@@ -5,7 +5,7 @@ ghost use Rattle.futures.specs.Poll.{IfReady, OnPending};
 ghost use Rattle.futures.specs.Task.{Covers, Keeps};
 ghost use Rattle.futures.specs.Joined.{IsLive, IsDone, MayGive};
 ghost use Rattle.pl_io.specs.Outside.{Rose};
-ghost use Rattle.poll_run.specs.Turns.{AreLive, AreAllPlaces, GivesAll, MayEnd, Narrows, FallAt, slot_left, slots_left};
+ghost use Rattle.poll_run.specs.own.Turns.{AreLive, AreAllPlaces, GivesAll, MayEnd, Narrows, FallAt, slot_left, slots_left};
 
 use crate::{Bounded, Driver};
 use futures::Future;
@@ -125,7 +125,7 @@ fn take_all<A: Drop, T: Drop>(
 }
 
 impl<'t, A: Bounded<Output: Drop>> Future for InTurns<'t, A, A::Output> {
-    ghost use Rattle.poll_run.specs.Turns.{AreLive, MayEnd};
+    ghost use Rattle.poll_run.specs.own.Turns.{AreLive, MayEnd};
 
     type Output = Result<Vec<A::Output>, AllocError>;
 

@@ -6,18 +6,18 @@ use Rattle.std.proofs.lemmas.Bool.Decides.{nat_tests}
 use Rattle.std.proofs.lemmas.List.{take_all}
 use Rattle.clause_base.specs.Literal.{opposite}
 use Rattle.clause_base.specs.Clause.{has_literal}
-use Rattle.cdcl_rules.specs.Pending.{is_pending}
+use Rattle.cdcl_defs.specs.Pending.{is_pending}
 use Rattle.bit_sets.specs.Layered.{IsLeast}
-use Rattle.cdcl_trail.proofs.Assignments.{has-snoc}
+use Rattle.cdcl_tables.proofs.published.Assignments.{has-snoc}
 use Rattle.clause_base.specs.declared.pair.Pair.{Pair}
 use Rattle.propagation.specs.Pending.{is_free, is_pending_on}
-use Rattle.propagation.specs.Asks.{IsUnit, IsAsk, IsConsistent}
-use Rattle.cdcl_rules.specs.State.{clause_at}
-use Rattle.propagation.specs.Visit.{Grows, IsFit}
+use Rattle.propagation.specs.own.Asks.{IsUnit, IsAsk, IsConsistent}
+use Rattle.cdcl_defs.specs.State.{clause_at}
+use Rattle.propagation.specs.own.Visit.{Grows, IsFit}
 use Rattle.clause_base.specs.Pairs.{pair_in}
-use Rattle.propagation.specs.Added.{Outlasts}
+use Rattle.propagation.specs.own.Added.{Outlasts}
 use Rattle.propagation.proofs.Filters.{clause_is, tests_one, count_one, count_some, count_two, any_from_has, has_get, pending_at}
-use Rattle.propagation.proofs.Assigns.{equal_of, apart_of, opposite_twice, not_false, true_in_take}
+use Rattle.propagation.proofs.published.Assigns.{equal_of, apart_of, opposite_twice, not_false, true_in_take}
 
 -- the literals of a clause that is read
 pub fit_read : (cl : List (List ℕ)) (codes k : ℕ) (xs : List ℕ) → IsFit cl codes → xs ≡ get_or cl k [] → (p : ℕ) → p < length xs → get_or xs p 0 < codes

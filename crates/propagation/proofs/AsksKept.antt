@@ -3,14 +3,14 @@ use Rattle.std.proofs.Common.{arith, ◌≡◌, ◌==◌, ℕ, ◌*◌, ◌<◌,
 use Rattle.std.proofs.Common.{◌∙◌, subst, inl, inr, length-set, get_or-set_same, get_or-set_other}
 use Rattle.std.proofs.lemmas.List.{length_push}
 use Rattle.clause_base.specs.Clause.{has_literal}
-use Rattle.cdcl_rules.specs.State.{clause_at}
+use Rattle.cdcl_defs.specs.State.{clause_at}
 use Rattle.bit_sets.specs.Layered.{words_have}
 use Rattle.propagation.specs.declared.pending.Pending.{Pending}
 use Rattle.propagation.specs.declared.enter.Entered.{Entered}
-use Rattle.propagation.specs.Asks.{IsAsk, IsWithin, HasAsks, IsPut, IsWider, IsWithout}
-use Rattle.propagation.specs.Added.{IsRaised}
-use Rattle.propagation.proofs.Assigns.{equal_of, apart_of, true_longer}
-use Rattle.propagation.proofs.Adds.{at_other, at_own}
+use Rattle.propagation.specs.own.Asks.{IsAsk, IsWithin, HasAsks, IsPut, IsWider, IsWithout}
+use Rattle.propagation.specs.own.Added.{IsRaised}
+use Rattle.propagation.proofs.published.Assigns.{equal_of, apart_of, true_longer}
+use Rattle.propagation.proofs.published.Adds.{at_other, at_own}
 use Rattle.propagation.proofs.Asks.{ask_longer}
 
 within_insert : (n number : ℕ) (was is : ℕ → Bool) → number < n → IsWithin n was → ((k : ℕ) → is k ≡ (k == number || was k)) → IsWithin n is

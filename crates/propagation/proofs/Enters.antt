@@ -5,21 +5,21 @@ use Rattle.std.proofs.Common.{false, refl, sym, ap, ◌∙◌, subst, Option, So
 use Rattle.std.proofs.lemmas.List.{take_all}
 use Rattle.std.proofs.lemmas.List.Elements.{All-get_or}
 use Rattle.clause_base.specs.Clause.{has_literal, IsClause, HasVariablesBelow}
-use Rattle.cdcl_rules.specs.Pending.{is_pending}
-use Rattle.clause_store.specs.declared.chains.Node.{Node}
-use Rattle.clause_store.specs.Linked.{IsLinked, ArePairLoose, blocking_of, placed}
+use Rattle.cdcl_defs.specs.Pending.{is_pending}
+use Rattle.cdcl_tables.specs.declared.chains.Node.{Node}
+use Rattle.cdcl_tables.specs.Linked.{IsLinked, ArePairLoose, blocking_of, placed}
 use Rattle.bit_sets.specs.Layered.{words_have}
 use Rattle.propagation.specs.declared.pending.Pending.{Pending}
 use Rattle.propagation.specs.declared.enter.Entered.{Entered}
 use Rattle.propagation.specs.Pending.{is_free, has_two_free, is_pending_on}
-use Rattle.propagation.specs.Visit.{literal_at, IsAtRest}
-use Rattle.propagation.specs.Sound.{AreFree}
-use Rattle.propagation.specs.Added.{Outlasts, IsQuietBelow, IsRaised}
+use Rattle.propagation.specs.own.Visit.{literal_at, IsAtRest}
+use Rattle.propagation.specs.own.Sound.{AreFree}
+use Rattle.propagation.specs.own.Added.{Outlasts, IsQuietBelow, IsRaised}
 use Rattle.propagation.specs.Front.{IsComplete}
 use Rattle.propagation.proofs.Filters.{count_two, pending_off}
-use Rattle.propagation.proofs.Assigns.{equal_of, apart_of, tests_at_most}
+use Rattle.propagation.proofs.published.Assigns.{equal_of, apart_of, tests_at_most}
 use Rattle.propagation.proofs.Visits.{once}
-use Rattle.propagation.proofs.Adds.{listed_add, literal_other, literal_own, own_free, free_add, rising_short, pending_other, pending_own}
+use Rattle.propagation.proofs.published.Adds.{listed_add, literal_other, literal_own, own_free, free_add, rising_short, pending_other, pending_own}
 
 -- what was done to the tables for a clause of two literals or more
 pub record IsEntered (k : List ℕ) (number : ℕ) (trail : List ℕ) (froms' heads : List ℕ) (nodes : List Node) (heads' : List ℕ) (nodes' : List Node) (a b : ℕ) : Type 0 where

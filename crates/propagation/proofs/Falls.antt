@@ -6,10 +6,10 @@ use Rattle.clause_base.specs.Literal.{opposite}
 use Rattle.clause_base.specs.Clause.{has_literal}
 use Rattle.propagation.specs.Pending.{is_free}
 use Rattle.propagation.specs.declared.fall.Latest.{Latest}
-use Rattle.propagation.specs.Added.{Outlasts}
-use Rattle.propagation.specs.Latest.{IsFreeUntil, AreLatest}
+use Rattle.propagation.specs.own.Added.{Outlasts}
+use Rattle.propagation.specs.own.Latest.{IsFreeUntil, AreLatest}
 use Rattle.propagation.proofs.Asks.{below_more}
-use Rattle.propagation.proofs.Assigns.{equal_of, apart_of, true_in_take, at_most_of, tests_at_most}
+use Rattle.propagation.proofs.published.Assigns.{equal_of, apart_of, true_in_take, at_most_of, tests_at_most}
 
 not_before : (a b : ℕ) → not (ltb a b) ≡ leb b a
 not_before a b = grind (arith, nat_tests)

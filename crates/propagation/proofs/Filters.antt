@@ -6,9 +6,9 @@ use Rattle.std.proofs.lemmas.List.Filters.{length-filter_more}
 use Rattle.clause_base.specs.Clause.{IsClause, has_literal}
 use Rattle.std.proofs.lemmas.Option.{unwrap_or-slice_get}
 use Rattle.propagation.specs.Pending.{is_free, is_pending_on}
-use Rattle.cdcl_rules.specs.Pending.{is_pending}
-use Rattle.cdcl_rules.specs.State.{clause_at}
-use Rattle.propagation.specs.Visit.{IsSettled}
+use Rattle.cdcl_defs.specs.Pending.{is_pending}
+use Rattle.cdcl_defs.specs.State.{clause_at}
+use Rattle.propagation.specs.own.Visit.{IsSettled}
 
 -- what the test for at most one tells, and what makes it
 pub tests_one : (n : ℕ) → n ≤ 1 → leb n 1 ≡ true

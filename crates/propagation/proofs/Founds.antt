@@ -5,17 +5,17 @@ use Rattle.std.specs.List.{filter}
 use Rattle.std.proofs.lemmas.List.Filters.{length-filter_both}
 use Rattle.clause_base.specs.Literal.{opposite}
 use Rattle.clause_base.specs.Clause.{has_literal}
-use Rattle.cdcl_rules.specs.Pending.{is_pending}
+use Rattle.cdcl_defs.specs.Pending.{is_pending}
 use Rattle.clause_base.specs.declared.pair.Pair.{Pair}
 use Rattle.propagation.specs.Pending.{is_free, has_two_free, is_pending_on}
-use Rattle.cdcl_rules.specs.State.{clause_at}
-use Rattle.propagation.specs.Visit.{slot_clauses, slot_flags, slot_set, Grows}
+use Rattle.cdcl_defs.specs.State.{clause_at}
+use Rattle.propagation.specs.own.Visit.{slot_clauses, slot_flags, slot_set, Grows}
 use Rattle.clause_base.specs.Pairs.{pairs_of, pair_in}
-use Rattle.clause_store.specs.Pairs.{IsInPairs}
-use Rattle.propagation.specs.Pairs.{IsUnwatched, HasSlot, IsPaired}
+use Rattle.cdcl_tables.specs.Pairs.{IsInPairs}
+use Rattle.propagation.specs.own.Pairs.{IsUnwatched, HasSlot, IsPaired}
 use Rattle.propagation.proofs.Filters.{pending_at, tests_one}
-use Rattle.propagation.proofs.Assigns.{pending_parts, pending_earlier}
-use Rattle.propagation.proofs.Adds.{kept_in}
+use Rattle.propagation.proofs.published.Assigns.{pending_parts, pending_earlier}
+use Rattle.propagation.proofs.published.Adds.{kept_in}
 use Rattle.propagation.proofs.Paired.{pair_pending}
 use Rattle.propagation.proofs.Slotted.{slot_pending}
 

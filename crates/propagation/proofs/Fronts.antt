@@ -1,15 +1,15 @@
 -- The least member that is kept and pending is the first clause that is so.
 use Rattle.std.proofs.Common.{arith, ◌≡◌, ℕ, List, length, Bool, true, false, Some, None, Option, refl, sym, ap, ◌∙◌}
 use Rattle.clause_base.specs.Clause.{has_literal}
-use Rattle.cdcl_rules.specs.declared.event.Event.{Event}
-use Rattle.cdcl_rules.specs.State.{clause_at}
-use Rattle.cdcl_rules.specs.Pending.{is_pending, is_pending_in}
-use Rattle.cdcl_rules.proofs.Pending.{first_is, none_is}
+use Rattle.cdcl_defs.specs.declared.event.Event.{Event}
+use Rattle.cdcl_defs.specs.State.{clause_at}
+use Rattle.cdcl_defs.specs.Pending.{is_pending, is_pending_in}
+use Rattle.cdcl_defs.proofs.published.Pending.{first_is, none_is}
 use Rattle.bit_sets.specs.Layered.{IsLeast, words_have}
 use Rattle.propagation.specs.declared.pending.Pending.{Pending}
 use Rattle.propagation.specs.Front.{asked_at, first_asked, IsComplete}
 use Rattle.propagation.specs.Pending.{is_pending_on}
-use Rattle.propagation.proofs.Adds.{kept_in}
+use Rattle.propagation.proofs.published.Adds.{kept_in}
 use Rattle.propagation.proofs.Filters.{pending_at}
 
 off_by : (a b : Bool) → (a ≡ true → b ≡ true) → b ≡ false → a ≡ false

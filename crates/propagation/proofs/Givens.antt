@@ -7,27 +7,27 @@ use Rattle.std.proofs.lemmas.List.{map-append, length_push, get_or_push, get_or_
 use Rattle.std.proofs.lemmas.List.Elements.{All-get_or}
 use Rattle.std.proofs.lemmas.Grind.{replicate_next}
 use Rattle.clause_base.specs.Clause.{IsClause, HasVariablesBelow, has_literal}
-use Rattle.cdcl_rules.specs.Pending.{is_pending}
-use Rattle.cdcl_rules.specs.State.{clause_at}
+use Rattle.cdcl_defs.specs.Pending.{is_pending}
+use Rattle.cdcl_defs.specs.State.{clause_at}
 use Rattle.bit_sets.specs.Layered.{words_have}
-use Rattle.cdcl_trail.specs.Mirrored.{TrailView}
+use Rattle.cdcl_tables.specs.Mirrored.{TrailView}
 use Rattle.clause_base.specs.declared.pair.Pair.{Pair}
-use Rattle.clause_store.specs.Pairs.{IsIndex}
-use Rattle.clause_store.specs.Linked.{IsLinked}
+use Rattle.cdcl_tables.specs.Pairs.{IsIndex}
+use Rattle.cdcl_tables.specs.Linked.{IsLinked}
 use Rattle.propagation.specs.declared.given.Given.{Given}
 use Rattle.propagation.specs.declared.pending.Pending.{Pending}
 use Rattle.propagation.specs.declared.tables.Tables.{Tables}
 use Rattle.propagation.specs.declared.visit.Lists.{Lists}
-use Rattle.propagation.specs.Asks.{IsAsk, IsPut}
-use Rattle.propagation.specs.Added.{AreWider, RestsWith}
-use Rattle.propagation.specs.Given.{AreGiven, AreRising, IsBeside}
-use Rattle.propagation.specs.Pairs.{HasSlot, IsUnwatched, IsPaired}
-use Rattle.propagation.specs.Visit.{slot_clauses, slot_flags, AreSlotsBelow, IsFit, IsReal}
-use Rattle.propagation.specs.Sound.{AreSound}
-use Rattle.propagation.specs.Steps.{AreStepped}
+use Rattle.propagation.specs.own.Asks.{IsAsk, IsPut}
+use Rattle.propagation.specs.own.Added.{AreWider, RestsWith}
+use Rattle.propagation.specs.own.Given.{AreGiven, AreRising, IsBeside}
+use Rattle.propagation.specs.own.Pairs.{HasSlot, IsUnwatched, IsPaired}
+use Rattle.propagation.specs.own.Visit.{slot_clauses, slot_flags, AreSlotsBelow, IsFit, IsReal}
+use Rattle.propagation.specs.own.Sound.{AreSound}
+use Rattle.propagation.specs.own.Steps.{AreStepped}
 use Rattle.propagation.proofs.Filters.{clause_is, clause_past, none_lawful, pending_off}
-use Rattle.propagation.proofs.Assigns.{equal_of, apart_of, at_most_of, past_of}
-use Rattle.propagation.proofs.Adds.{kept_in}
+use Rattle.propagation.proofs.published.Assigns.{equal_of, apart_of, at_most_of, past_of}
+use Rattle.propagation.proofs.published.Adds.{kept_in}
 use Rattle.propagation.proofs.Asks.{consistent_none, pending_kept}
 use Rattle.propagation.proofs.Enters.{below_by, short_by}
 use Rattle.propagation.proofs.Slotted.{slots_long, below_more}

@@ -1,13 +1,13 @@
 -- The member that asks for a literal is taken out where this becomes true: its clause is pending no more, so that none is missed.
 use Rattle.std.proofs.Common.{arith, ◌≡◌, ℕ, ◌<◌, List, Bool, true, false, not, ◌||◌, ◌&&◌, ◌⊎◌, inl, inr, get_or, refl, sym, ap, ◌∙◌}
 use Rattle.clause_base.specs.Clause.{has_literal}
-use Rattle.cdcl_rules.specs.State.{clause_at}
+use Rattle.cdcl_defs.specs.State.{clause_at}
 use Rattle.bit_sets.specs.Layered.{words_have}
-use Rattle.clause_store.specs.declared.chains.Node.{Node}
+use Rattle.cdcl_tables.specs.declared.chains.Node.{Node}
 use Rattle.propagation.specs.declared.pending.Pending.{Pending}
-use Rattle.propagation.specs.Asks.{HasAsks, IsConsistent, IsWithout}
+use Rattle.propagation.specs.own.Asks.{HasAsks, IsConsistent, IsWithout}
 use Rattle.propagation.specs.Pending.{is_pending_on}
-use Rattle.propagation.specs.Visit.{AllSettled, Grows}
+use Rattle.propagation.specs.own.Visit.{AllSettled, Grows}
 use Rattle.propagation.proofs.Asks.{ask_true, clash, pending_kept}
 
 -- what is in a set, and what is gone from it

@@ -6,7 +6,7 @@ use Rattle.bit_sets.specs.Layered.{words_have}
 use Rattle.propagation.specs.declared.pending.Pending.{Pending}
 use Rattle.propagation.specs.Front.{IsComplete, StayWhere}
 use Rattle.propagation.specs.Known.{IsListed}
-use Rattle.propagation.proofs.Assigns.{equal_of}
+use Rattle.propagation.proofs.published.Assigns.{equal_of}
 
 -- where all that passes is in the set, it is so in the set that is left
 pub stay_complete : (passes : ℕ → Bool) (old new : Pending) → IsComplete passes old → StayWhere passes old new → IsComplete passes new

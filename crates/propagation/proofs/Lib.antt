@@ -1,10 +1,7 @@
 pub mod Filters
 pub mod Visits
-pub mod Assigns
 pub mod Undoes
-pub mod Removes
 pub mod Falls
-pub mod Adds
 pub mod Wider
 pub mod Enters
 pub mod Paired
@@ -21,3 +18,4 @@ pub mod Scans
 pub mod Fronts
 pub mod Givens
 pub mod Knowns
+pub mod published

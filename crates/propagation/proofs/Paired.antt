@@ -9,16 +9,16 @@ use Rattle.clause_base.specs.Clause.{has_literal}
 use Rattle.propagation.specs.declared.visit.Lists.{Lists}
 use Rattle.clause_base.specs.declared.pair.Pair.{Pair}
 use Rattle.clause_base.specs.Pairs.{pairs_of, pair_in}
-use Rattle.clause_store.specs.Pairs.{HasPair, IsInPairs, IsPairOf, AreExact}
+use Rattle.cdcl_tables.specs.Pairs.{HasPair, IsInPairs, IsPairOf, AreExact}
 use Rattle.propagation.specs.Pending.{is_free, has_two_free}
-use Rattle.cdcl_rules.specs.State.{clause_at}
-use Rattle.propagation.specs.Asks.{IsAsk}
-use Rattle.propagation.specs.Visit.{IsFit}
-use Rattle.propagation.specs.Pairs.{IsUnwatched, HasSlot, IsPaired}
-use Rattle.propagation.specs.Added.{IsTaken}
+use Rattle.cdcl_defs.specs.State.{clause_at}
+use Rattle.propagation.specs.own.Asks.{IsAsk}
+use Rattle.propagation.specs.own.Visit.{IsFit}
+use Rattle.propagation.specs.own.Pairs.{IsUnwatched, HasSlot, IsPaired}
+use Rattle.propagation.specs.own.Added.{IsTaken}
 use Rattle.propagation.proofs.Filters.{clause_past, count_two, tests_two}
-use Rattle.propagation.proofs.Assigns.{equal_of, apart_of, free_after}
-use Rattle.propagation.proofs.Adds.{at_other, at_own}
+use Rattle.propagation.proofs.published.Assigns.{equal_of, apart_of, free_after}
+use Rattle.propagation.proofs.published.Adds.{at_other, at_own}
 
 -- a pair is of a clause that there is, and of a literal
 pub pair_within : (cl : List (List ℕ)) (codes code : ℕ) (p : Pair) → IsFit cl codes → IsPairOf cl code p → (p.other < codes) × (p.number < length cl)

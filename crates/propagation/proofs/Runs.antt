@@ -5,7 +5,7 @@ use Rattle.std.proofs.lemmas.Bool.Decides.{nat_tests}
 use Rattle.std.proofs.lemmas.List.{get_or-map, length-map}
 use Rattle.clause_base.specs.Clause.{has_literal}
 use Rattle.clause_base.specs.View.{shifted}
-use Rattle.clause_base.proofs.ViewLemmas.{up_high, up_low}
+use Rattle.clause_base.proofs.published.ViewLemmas.{up_high, up_low}
 use Rattle.propagation.specs.Pending.{AreFalseFrom, IsSought, is_free}
 
 pub as_long : (xs lits : List ℕ) (f : ℕ → ℕ) → xs ≡ map f lits → length lits ≡ length xs
@@ -41,7 +41,3 @@ module _ (trail clause lits : List ℕ) (up skipped low place high : ℕ) (withi
   pub sought_other : (r : Option ℕ) → IsSought trail lits up skipped place high r → IfSome r (λ p. get_or clause p 0 ≡ skipped → ⊥)
   sought_other None h = tt
   sought_other (Some p) h = subst (λ (n : ℕ). n ≡ skipped → ⊥) (same p h.0 (omega (arith, h.1, within))) h.2
-
-  pub sought_inside : (r : Option ℕ) → IsSought trail lits up skipped place high r → IfSome r (λ p. p < length clause)
-  sought_inside None h = tt
-  sought_inside (Some p) h = omega (arith, h.1, within)

@@ -4,7 +4,7 @@ use Rattle.std.specs.List.{list_any, filter}
 use Rattle.std.proofs.lemmas.List.{take_all, append-nil}
 use Rattle.std.proofs.lemmas.List.Elements.{filter_more}
 use Rattle.std.proofs.lemmas.List.Folds.{list_any_more}
-use Rattle.cdcl_rules.specs.Pending.{is_pending}
+use Rattle.cdcl_defs.specs.Pending.{is_pending}
 use Rattle.propagation.specs.Pending.{is_free}
 use Rattle.propagation.proofs.Filters.{two_by_here, any_from_has, has_get}
 

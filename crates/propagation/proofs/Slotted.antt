@@ -3,15 +3,15 @@ use Rattle.std.proofs.Common.{arith, ◌≡◌, ◌==◌, ℕ, suc, ◌+◌, ◌
 use Rattle.std.proofs.lemmas.Bool.Decides.{nat_tests}
 use Rattle.std.proofs.lemmas.List.{get_or-map, length-map, map-append, length_push, get_or_push}
 use Rattle.clause_base.specs.Clause.{IsClause, has_literal}
-use Rattle.cdcl_rules.specs.Pending.{is_pending}
+use Rattle.cdcl_defs.specs.Pending.{is_pending}
 use Rattle.propagation.specs.declared.visit.Lists.{Lists}
 use Rattle.propagation.specs.Pending.{is_pending_on}
-use Rattle.cdcl_rules.specs.State.{clause_at}
-use Rattle.propagation.specs.Visit.{slot_clauses, slot_flags, slot_set, AreSlotsBelow, IsFit, IsAtRest}
-use Rattle.propagation.specs.Sound.{AreFree}
-use Rattle.propagation.specs.Added.{IsTaken}
+use Rattle.cdcl_defs.specs.State.{clause_at}
+use Rattle.propagation.specs.own.Visit.{slot_clauses, slot_flags, slot_set, AreSlotsBelow, IsFit, IsAtRest}
+use Rattle.propagation.specs.own.Sound.{AreFree}
+use Rattle.propagation.specs.own.Added.{IsTaken}
 use Rattle.propagation.proofs.Filters.{clause_is, clause_past, none_lawful, pending_at}
-use Rattle.propagation.proofs.Adds.{get_other, at_other, at_own, kept_in}
+use Rattle.propagation.proofs.published.Adds.{get_other, at_other, at_own, kept_in}
 
 -- a slot's clause and flag are those of its number
 pub slot_at : (cl : List (List ℕ)) (slots : List ℕ) (s : ℕ) → s < length slots → clause_at (slot_clauses cl slots) s ≡ clause_at cl (get_or slots s 0)

@@ -6,13 +6,13 @@ use Rattle.propagation.specs.declared.enter.Entered.{Entered}
 use Rattle.propagation.specs.declared.pending.Pending.{Pending}
 use Rattle.propagation.specs.declared.tables.Tables.{Tables}
 use Rattle.propagation.specs.declared.visit.Lists.{Lists}
-use Rattle.propagation.specs.Asks.{IsAsk}
-use Rattle.propagation.specs.Tables.{AreTables}
-use Rattle.propagation.specs.Visit.{AreSlotsBelow}
-use Rattle.propagation.specs.Sound.{AreSound}
-use Rattle.propagation.specs.Added.{IsTaken, IsQuietBelow, IsRaised}
-use Rattle.propagation.proofs.Assigns.{at_most_of, past_of}
-use Rattle.propagation.proofs.Adds.{fit_add, quiets_add}
+use Rattle.propagation.specs.own.Asks.{IsAsk}
+use Rattle.propagation.specs.own.Tables.{AreTables}
+use Rattle.propagation.specs.own.Visit.{AreSlotsBelow}
+use Rattle.propagation.specs.own.Sound.{AreSound}
+use Rattle.propagation.specs.own.Added.{IsTaken, IsQuietBelow, IsRaised}
+use Rattle.propagation.proofs.published.Assigns.{at_most_of, past_of}
+use Rattle.propagation.proofs.published.Adds.{fit_add, quiets_add}
 use Rattle.propagation.proofs.AsksKept.{asks_add}
 use Rattle.propagation.proofs.Enters.{below_by, short_by, complete_add}
 use Rattle.propagation.proofs.Stepped.{stepped_add}

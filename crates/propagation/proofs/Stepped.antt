@@ -5,13 +5,13 @@ use Rattle.std.proofs.Math.Nat.{mul-le-mul_right}
 use Rattle.std.proofs.lemmas.List.{length_push, get_or_append_left}
 use Rattle.std.proofs.lemmas.Option.{slice_get-get_or, unwrap_or-slice_get}
 use Rattle.clause_base.specs.Repeats.{Repeats, all_steps, all_times, repeated}
-use Rattle.clause_base.proofs.RepeatLemmas.{get_left, get_right, length_steps, length_repeated}
-use Rattle.cdcl_rules.specs.State.{clause_at}
+use Rattle.clause_base.proofs.published.RepeatLemmas.{get_left, get_right, length_steps, length_repeated}
+use Rattle.cdcl_defs.specs.State.{clause_at}
 use Rattle.propagation.specs.declared.steps.Steps.{Steps}
 use Rattle.propagation.specs.declared.visit.Lists.{Lists}
-use Rattle.propagation.specs.Added.{IsTaken}
-use Rattle.propagation.specs.Steps.{ArePlaced, AreStepped, IsPlaced}
-use Rattle.propagation.proofs.Adds.{at_other}
+use Rattle.propagation.specs.own.Added.{IsTaken}
+use Rattle.propagation.specs.own.Steps.{ArePlaced, AreStepped, IsPlaced}
+use Rattle.propagation.proofs.published.Adds.{at_other}
 use Rattle.propagation.proofs.Templates.{part_below, whole_long}
 
 -- one more clause, which may have one more slot

@@ -8,11 +8,11 @@ use Rattle.std.proofs.Math.Nat.{mul-le-mul_right}
 use Rattle.std.proofs.lemmas.List.{length-map, length_push, get_or_push, get_or_append_left}
 use Rattle.std.proofs.lemmas.Option.{slice_get-map}
 use Rattle.clause_base.specs.Repeats.{Repeats, moved_code, all_steps, all_times, repeated}
-use Rattle.clause_base.proofs.RepeatLemmas.{get_left, get_right, length_steps, length_repeated, step_at, time_at}
-use Rattle.cdcl_rules.specs.State.{clause_at}
-use Rattle.propagation.specs.Given.{AreRising, IsBeside}
-use Rattle.propagation.specs.Visit.{AreSlotsBelow}
-use Rattle.propagation.proofs.Assigns.{equal_of, apart_of}
+use Rattle.clause_base.proofs.published.RepeatLemmas.{get_left, get_right, length_steps, length_repeated, step_at, time_at}
+use Rattle.cdcl_defs.specs.State.{clause_at}
+use Rattle.propagation.specs.own.Given.{AreRising, IsBeside}
+use Rattle.propagation.specs.own.Visit.{AreSlotsBelow}
+use Rattle.propagation.proofs.published.Assigns.{equal_of, apart_of}
 
 -- a clause whose literals are moved has as many
 moved_long : (f : ℕ → ℕ) (list : List (List ℕ)) (j : ℕ) → length (unwrap_or (slice_get (map (map f) list) j) []) ≡ length (clause_at list j)

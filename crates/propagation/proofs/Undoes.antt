@@ -1,19 +1,19 @@
 -- The tables where the trail is taken back: the watched literals stay right, and the set is found anew.
 use Rattle.std.proofs.Common.{arith, ◌≡◌, ℕ, zero, suc, [], ◌∷◌, ◌*◌, ◌≤◌, List, Bool, length, take, refl, sym, ap, ◌∙◌, subst}
 use Rattle.std.proofs.lemmas.List.{take_all, take-take, take-map, length-take-le, length-map}
-use Rattle.cdcl_rules.specs.declared.trail.Assigned.{Assigned}
-use Rattle.cdcl_trail.specs.Assignment.{AssignmentView, literals}
-use Rattle.cdcl_trail.proofs.Assignments.{literals_back, back_le}
+use Rattle.cdcl_defs.specs.declared.trail.Assigned.{Assigned}
+use Rattle.cdcl_tables.specs.Assignment.{AssignmentView, literals}
+use Rattle.cdcl_tables.proofs.published.Assignments.{literals_back, back_le}
 use Rattle.propagation.specs.declared.undo.Back.{Back}
 use Rattle.propagation.specs.declared.undo.Back.TheVariants.{Length, Level}
-use Rattle.propagation.specs.Back.{taken_back}
+use Rattle.propagation.specs.own.Back.{taken_back}
 use Rattle.propagation.specs.declared.pending.Pending.{Pending}
 use Rattle.propagation.specs.declared.tables.Tables.{Tables}
 use Rattle.propagation.specs.declared.visit.Lists.{Lists}
-use Rattle.propagation.specs.Asks.{HasAsks, IsConsistent}
+use Rattle.propagation.specs.own.Asks.{HasAsks, IsConsistent}
 use Rattle.propagation.specs.Front.{AreRead, IsComplete, StayWhere}
-use Rattle.propagation.specs.Sound.{AreFree, AreSound}
-use Rattle.propagation.specs.Tables.{AreTables, clauses_in, flags_in, pending_in}
+use Rattle.propagation.specs.own.Sound.{AreFree, AreSound}
+use Rattle.propagation.specs.own.Tables.{AreTables, clauses_in, flags_in, pending_in}
 use Rattle.propagation.proofs.Asks.{consistent_take}
 use Rattle.propagation.proofs.Knowns.{stay_complete}
 

@@ -3,17 +3,17 @@ use Rattle.std.proofs.Common.{refl, sym, ap, ◌∙◌, subst, if◌then◌else�
 use Rattle.std.proofs.lemmas.Bool.Decides.{nat_tests}
 use Rattle.clause_base.specs.Literal.{opposite}
 use Rattle.clause_base.specs.Clause.{IsClause, IsRising, has_literal}
-use Rattle.clause_base.proofs.ClauseLemmas.{rising-tail}
-use Rattle.cdcl_trail.proofs.Mirrors.{half_opposite}
-use Rattle.clause_store.specs.declared.chains.Node.{Node}
-use Rattle.clause_store.specs.declared.chains.Place.{Place}
-use Rattle.clause_store.specs.Linked.{blocking_of, has, placed}
-use Rattle.clause_store.specs.Walk.{IsWalk}
-use Rattle.propagation.specs.Asks.{IsUnit}
+use Rattle.clause_base.proofs.published.ClauseLemmas.{rising-tail}
+use Rattle.cdcl_tables.proofs.published.Mirrors.{half_opposite}
+use Rattle.cdcl_tables.specs.declared.chains.Node.{Node}
+use Rattle.cdcl_tables.specs.declared.chains.Place.{Place}
+use Rattle.cdcl_tables.specs.Linked.{blocking_of, has, placed}
+use Rattle.cdcl_tables.specs.Walk.{IsWalk}
+use Rattle.propagation.specs.own.Asks.{IsUnit}
 use Rattle.propagation.specs.Pending.{AreFalseBut, is_free}
-use Rattle.cdcl_rules.specs.State.{clause_at}
-use Rattle.propagation.specs.Visit.{literal_at, IsReal, IsNodeKept, IsSettled, MovesToFree, Grows, AllSettled, IsAtRest, IsVisiting}
-use Rattle.propagation.proofs.Assigns.{AreTwoWatched, equal_of, apart_of, opposite_twice}
+use Rattle.cdcl_defs.specs.State.{clause_at}
+use Rattle.propagation.specs.own.Visit.{literal_at, IsReal, IsNodeKept, IsSettled, MovesToFree, Grows, AllSettled, IsAtRest, IsVisiting}
+use Rattle.propagation.proofs.published.Assigns.{AreTwoWatched, equal_of, apart_of, opposite_twice}
 
 -- a literal of a clause is below the codes
 pub has_below : (xs : List ℕ) (codes l : ℕ) → ((p : ℕ) → p < length xs → get_or xs p 0 < codes) → has_literal xs l ≡ true → l < codes

@@ -2,19 +2,19 @@
 use Rattle.std.proofs.Common.{arith, ◌≡◌, ℕ, ◌*◌, ◌/◌, ◌≤◌, List, length, take, Bool, sym, ap, ◌∙◌, Some}
 use Rattle.clause_base.specs.Literal.{opposite}
 use Rattle.clause_base.specs.Clause.{has_literal}
-use Rattle.cdcl_trail.proofs.Mirrors.{half_opposite}
-use Rattle.clause_store.specs.Linked.{blocking_of}
+use Rattle.cdcl_tables.proofs.published.Mirrors.{half_opposite}
+use Rattle.cdcl_tables.specs.Linked.{blocking_of}
 use Rattle.propagation.specs.declared.pending.Pending.{Pending}
 use Rattle.propagation.specs.declared.tables.Tables.{Tables}
 use Rattle.propagation.specs.declared.visit.Lists.{Lists}
 use Rattle.propagation.specs.Pending.{is_free}
-use Rattle.cdcl_rules.specs.State.{clause_at}
-use Rattle.propagation.specs.Visit.{literal_at, IsReal, IsAtRest}
-use Rattle.propagation.specs.Asks.{IsWider}
+use Rattle.cdcl_defs.specs.State.{clause_at}
+use Rattle.propagation.specs.own.Visit.{literal_at, IsReal, IsAtRest}
+use Rattle.propagation.specs.own.Asks.{IsWider}
 use Rattle.propagation.specs.Front.{IsComplete}
-use Rattle.propagation.specs.Tables.{clauses_in, flags_in, pending_in}
-use Rattle.propagation.specs.Sound.{AreSound}
-use Rattle.propagation.specs.Added.{AreSame, AreWider}
+use Rattle.propagation.specs.own.Tables.{clauses_in, flags_in, pending_in}
+use Rattle.propagation.specs.own.Sound.{AreSound}
+use Rattle.propagation.specs.own.Added.{AreSame, AreWider}
 use Rattle.propagation.proofs.AsksKept.{asks_wider}
 
 -- a node of a clause is in the table of nodes, and so is the other one of its slot

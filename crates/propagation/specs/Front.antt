@@ -1,15 +1,15 @@
 -- The least clause that is kept and pending, and what it asks for.
 use Rattle.std.specs.Prelude.{◌≡◌, ℕ, ◌*◌, ◌&&◌, List, Bool, true, false, length, Option, Some, None}
-use Rattle.cdcl_rules.specs.declared.event.Event.{Event}
-use Rattle.cdcl_rules.specs.State.{clause_at}
-use Rattle.cdcl_rules.specs.Pending.{open_ones, is_pending_in, least_from}
-use Rattle.cdcl_rules.specs.Event.{asked}
-use Rattle.cdcl_trail.specs.Assignment.{AssignmentView}
+use Rattle.cdcl_defs.specs.declared.event.Event.{Event}
+use Rattle.cdcl_defs.specs.State.{clause_at}
+use Rattle.cdcl_defs.specs.Pending.{open_ones, is_pending_in, least_from}
+use Rattle.cdcl_defs.specs.Event.{asked}
+use Rattle.cdcl_tables.specs.Assignment.{AssignmentView}
 use Rattle.bit_sets.specs.Layered.{words_have}
 use Rattle.propagation.specs.declared.pending.Pending.{Pending}
 use Rattle.propagation.specs.declared.tables.Tables.{Tables}
-use Rattle.propagation.specs.Asks.{HasAsks, IsConsistent}
-use Rattle.propagation.specs.Tables.{AreTables}
+use Rattle.propagation.specs.own.Asks.{HasAsks, IsConsistent}
+use Rattle.propagation.specs.own.Tables.{AreTables}
 
 -- what the set is cleaned by: the tables, an assignment without contradiction, and what each member asks for under it
 pub record AreRead (t : Tables) (a : AssignmentView) (p : Pending) : Type 0 where

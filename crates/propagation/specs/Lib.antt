@@ -1,14 +1,4 @@
 pub mod Pending
-pub mod Visit
-pub mod Asks
-pub mod Status
-pub mod Back
 pub mod Front
-pub mod Pairs
-pub mod Steps
-pub mod Tables
-pub mod Sound
-pub mod Added
-pub mod Latest
-pub mod Given
 pub mod Known
+pub mod own

@@ -2,8 +2,8 @@
 use Rattle.std.specs.Prelude.{◌≡◌, ℕ, ◌+◌, ◌<◌, ◌≤◌, List, Bool, true, false, not, Option, MatchOption, length, nat_le, slice_index}
 use Rattle.clause_base.specs.Literal.{opposite}
 use Rattle.clause_base.specs.Clause.{has_literal}
-use Rattle.cdcl_rules.specs.declared.trail.Assigned.{Assigned}
-use Rattle.cdcl_rules.specs.Pending.{open_ones, is_pending_in}
+use Rattle.cdcl_defs.specs.declared.trail.Assigned.{Assigned}
+use Rattle.cdcl_defs.specs.Pending.{open_ones, is_pending_in}
 
 -- a literal is not false, where these are true
 abbrev pub is_free : (ℕ → Bool) → ℕ → Bool
@@ -14,6 +14,7 @@ abbrev pub AreFalseFrom : List ℕ → List ℕ → ℕ → ℕ → ℕ → Type
 AreFalseFrom trail clause skipped low high =
     (p : ℕ) → low ≤ p → p < high → (slice_index clause p ≡ skipped → ⊥) → is_free (has_literal trail) (slice_index clause p) ≡ false
 
+-- all literals of a clause are false but this one
 abbrev pub AreFalseBut : List ℕ → List ℕ → ℕ → Type 0
 AreFalseBut trail clause skipped =
     (p : ℕ) → p < length clause → (slice_index clause p ≡ skipped → ⊥) → is_free (has_literal trail) (slice_index clause p) ≡ false

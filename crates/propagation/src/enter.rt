@@ -2,12 +2,12 @@
 //! literals are not false, these two are not, now and in each prefix of the trail.
 ghost use Rattle.std.specs.Prelude.{◌≡◌, ℕ, ◌+◌, ◌*◌, ◌<◌, ◌≤◌, length, slice_index};
 ghost use Rattle.clause_base.specs.Clause.{IsClause, has_literal};
-ghost use Rattle.propagation.specs.Asks.{IsAsk};
-ghost use Rattle.propagation.specs.Added.{HasSlotRoom, IsLoose, RestsWith, FreeWith, IsQuietBelow};
+ghost use Rattle.propagation.specs.own.Asks.{IsAsk};
+ghost use Rattle.propagation.specs.own.Added.{HasSlotRoom, IsLoose, RestsWith, FreeWith, IsQuietBelow};
 
 use crate::fall::latest_two;
 use crate::visit::Lists;
-use cdcl_trail::assignment::Assignment;
+use cdcl_tables::assignment::Assignment;
 use clause_base::literal::Lit;
 use clause_base::view::View;
 

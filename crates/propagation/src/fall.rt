@@ -2,9 +2,9 @@
 ghost use Rattle.std.specs.Prelude.{◌≡◌, ℕ, ◌+◌, ◌*◌, ◌<◌, ◌≤◌, List, length, take, slice_index, nat_le};
 ghost use Rattle.clause_base.specs.Clause.{has_literal};
 ghost use Rattle.propagation.specs.Pending.{is_free};
-ghost use Rattle.propagation.specs.Latest.{IsFreeUntil, AreLatest};
+ghost use Rattle.propagation.specs.own.Latest.{IsFreeUntil, AreLatest};
 
-use cdcl_trail::assignment::Assignment;
+use cdcl_tables::assignment::Assignment;
 use clause_base::literal::Lit;
 
 /// The length of the longest prefix of the trail in which a literal is not false.

@@ -3,11 +3,11 @@
 ghost use Rattle.std.specs.Prelude.{◌≡◌, ◌*◌, ◌<◌, length, true};
 ghost use Rattle.clause_base.specs.Clause.{has_literal};
 ghost use Rattle.bit_sets.specs.Layered.{words_have};
-ghost use Rattle.propagation.specs.Asks.{HasAsks, IsAsk, IsConsistent};
+ghost use Rattle.propagation.specs.own.Asks.{HasAsks, IsAsk, IsConsistent};
 ghost use Rattle.propagation.specs.Front.{AreRead, asked_at, first_asked, IsAnswer, IsComplete, StayWhere};
-ghost use Rattle.propagation.specs.Tables.{AreTables, pending_in};
-ghost use Rattle.propagation.specs.Visit.{Grows};
-ghost use Rattle.cdcl_rules.specs.State.{clause_at};
+ghost use Rattle.propagation.specs.own.Tables.{AreTables, pending_in};
+ghost use Rattle.propagation.specs.own.Visit.{Grows};
+ghost use Rattle.cdcl_defs.specs.State.{clause_at};
 
 use crate::pending::{NO_LITERAL, Pending};
 use crate::scan::ask_of;
@@ -16,8 +16,8 @@ use bit_sets::first::First;
 use bit_sets::flat::Flat;
 use bit_sets::layer::Layer;
 use bit_sets::set::NumberSet;
-use cdcl_rules::event::Event;
-use cdcl_trail::assignment::Assignment;
+use cdcl_defs::event::Event;
+use cdcl_tables::assignment::Assignment;
 use clause_base::literal::Lit;
 
 /// What a clause asks for, if it is kept and pending: one of which all literals are false but for this one.

@@ -2,22 +2,22 @@
 //! watches its last two; one of two literals is in the pair index alone; one of fewer is pending, and in the set from the
 //! beginning.
 ghost use Rattle.std.specs.Prelude.{◌≡◌, ℕ, ◌+◌, ◌*◌, ◌<◌, ◌≤◌, ◌==◌, [], None, false, length, IfOk, OnOk};
-ghost use Rattle.cdcl_rules.specs.State.{clause_at};
+ghost use Rattle.cdcl_defs.specs.State.{clause_at};
 ghost use Rattle.bit_sets.specs.Layered.{words_have};
-ghost use Rattle.clause_store.specs.Linked.{IsLinked};
-ghost use Rattle.propagation.specs.Visit.{IsFit, AreSlotsBelow};
-ghost use Rattle.propagation.specs.Given.{AreGiven, AreOthers, AreRising, IsBeside};
+ghost use Rattle.cdcl_tables.specs.Linked.{IsLinked};
+ghost use Rattle.propagation.specs.own.Visit.{IsFit, AreSlotsBelow};
+ghost use Rattle.propagation.specs.own.Given.{AreGiven, AreOthers, AreRising, IsBeside};
 
 use crate::pending::Pending;
 use crate::room::LEARNED;
 use crate::scan::only_ask;
 use crate::visit::Lists;
+use cdcl_tables::chains::Chains;
+use cdcl_tables::store::Store;
 use clause_base::clause_list::ClauseList;
 use clause_base::formula::Formula;
-use clause_base::memory::Memory;
 use clause_base::shared_list::SharedList;
-use clause_store::chains::Chains;
-use clause_store::store::Store;
+use containers::memory::Memory;
 use std::alloc::Global;
 
 /// The slots of a formula's clauses, and what is watched of them.

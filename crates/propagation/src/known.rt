@@ -2,17 +2,17 @@
 //! length, and no others.
 ghost use Rattle.std.specs.Prelude.{◌≡◌, ℕ, ◌*◌, ◌<◌, ◌≤◌, length, true, slice_index};
 ghost use Rattle.bit_sets.specs.Layered.{words_have};
-ghost use Rattle.propagation.specs.Asks.{HasAsks};
+ghost use Rattle.propagation.specs.own.Asks.{HasAsks};
 ghost use Rattle.propagation.specs.Front.{AreRead, StayWhere};
 ghost use Rattle.propagation.specs.Known.{IsListed};
-ghost use Rattle.propagation.specs.Tables.{AreTables, pending_in};
-ghost use Rattle.propagation.specs.Visit.{Grows};
+ghost use Rattle.propagation.specs.own.Tables.{AreTables, pending_in};
+ghost use Rattle.propagation.specs.own.Visit.{Grows};
 
 use crate::front::{next, scan_one};
 use crate::pending::Pending;
 use crate::tables::Tables;
 use bit_sets::set::NumberSet;
-use cdcl_trail::assignment::Assignment;
+use cdcl_tables::assignment::Assignment;
 
 /// How many clauses are listed.
 pub const FEW: usize = 4;

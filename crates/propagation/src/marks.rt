@@ -4,20 +4,20 @@ ghost use Rattle.clause_base.specs.Literal.{opposite};
 ghost use Rattle.clause_base.specs.Clause.{has_literal};
 ghost use Rattle.bit_sets.specs.Layered.{words_have};
 ghost use Rattle.clause_base.specs.Pairs.{pairs_of};
-ghost use Rattle.clause_store.specs.Pairs.{IsPairOf};
-ghost use Rattle.clause_store.specs.declared.origin.Origin.TheVariants.{Time};
-ghost use Rattle.propagation.specs.Asks.{HasAsks};
-ghost use Rattle.propagation.specs.Pairs.{AreAllMarked, AreAllPairsOf, AreMarked, ArePairsOf};
-ghost use Rattle.propagation.specs.Visit.{Grows, IsFit};
+ghost use Rattle.cdcl_tables.specs.Pairs.{IsPairOf};
+ghost use Rattle.cdcl_tables.specs.declared.origin.Origin.TheVariants.{Time};
+ghost use Rattle.propagation.specs.own.Asks.{HasAsks};
+ghost use Rattle.propagation.specs.own.Pairs.{AreAllMarked, AreAllPairsOf, AreMarked, ArePairsOf};
+ghost use Rattle.propagation.specs.own.Visit.{Grows, IsFit};
 
 use crate::pending::Pending;
-use cdcl_trail::assignment::Assignment;
+use cdcl_tables::assignment::Assignment;
+use cdcl_tables::index::PairIndex;
+use cdcl_tables::list::PairList;
+use cdcl_tables::lists::Lists;
+use cdcl_tables::origin::Origin;
+use cdcl_tables::store::Store;
 use clause_base::pair::Pair;
-use clause_store::index::PairIndex;
-use clause_store::list::PairList;
-use clause_store::lists::Lists;
-use clause_store::origin::Origin;
-use clause_store::store::Store;
 
 /// Puts the clause of a pair of a false literal into the set, if its other literal is not true.
 #[inline(always)]

@@ -1,7 +1,7 @@
 //! Which clauses may be pending, and what each of them asks for.
 ghost use Rattle.std.specs.Prelude.{◌≡◌, ℕ, ◌*◌, ◌<◌, ◌≤◌, length, true, false, slice_index, IfOk, OnOk};
 ghost use Rattle.bit_sets.specs.Layered.{words_have};
-ghost use Rattle.propagation.specs.Asks.{IsLeastAsking, IsPut, IsWider, IsWithin, IsWithout};
+ghost use Rattle.propagation.specs.own.Asks.{IsLeastAsking, IsPut, IsWider, IsWithin, IsWithout};
 
 use crate::room::fit_asks;
 use bit_sets::first::First;
@@ -26,7 +26,7 @@ pub struct Pending {
     pub asks: Vec<u32>,
 }
 
-/// Letting one go is one call, in which its parts go: whoever holds one proves one step.
+/// All parts are let go in one call, so that a proof has one step for it and not one for each part.
 impl Drop for Pending {
     fn drop(self) {
         let_go!(self: Pending { numbers, asks });

@@ -2,11 +2,11 @@
 //! are taken back and clauses come and go.
 ghost use Rattle.std.specs.Prelude.{◌≡◌, ◌*◌, ◌/◌, ◌<◌, ◌≤◌, ◌++◌, ◌∷◌, [], None, take, length, replicate, true, false, slice_set, slice_index_or, IfOk, OnOk, OnErr, MatchOption};
 ghost use Rattle.clause_base.specs.Clause.{IsClause, has_literal, HasVariablesBelow};
-ghost use Rattle.cdcl_rules.specs.State.{value_of, clause_at};
-ghost use Rattle.cdcl_rules.specs.Pending.{is_pending_in, open_ones};
-ghost use Rattle.cdcl_rules.specs.Learn.{backtracked};
-ghost use Rattle.cdcl_trail.specs.Assignment.{literals};
-ghost use Rattle.propagation.specs.Back.{taken_back};
+ghost use Rattle.cdcl_defs.specs.State.{value_of, clause_at};
+ghost use Rattle.cdcl_defs.specs.Pending.{is_pending_in, open_ones};
+ghost use Rattle.cdcl_defs.specs.Learn.{backtracked};
+ghost use Rattle.cdcl_tables.specs.Assignment.{literals};
+ghost use Rattle.propagation.specs.own.Back.{taken_back};
 ghost use Rattle.propagation.specs.Front.{first_asked};
 ghost use Rattle.propagation.specs.Known.{AreListed};
 ghost use Rattle.propagation.specs.Pending.{PropagatorView};
@@ -28,15 +28,15 @@ use bit_sets::first::First;
 use bit_sets::flat::Flat;
 use bit_sets::layer::Layer;
 use bit_sets::set::NumberSet;
-use cdcl_rules::event::Event;
-use cdcl_rules::trail::Assigned;
-use cdcl_trail::trail::Trail;
+use cdcl_defs::event::Event;
+use cdcl_defs::trail::Assigned;
+use cdcl_tables::chains::Chains;
+use cdcl_tables::index::PairIndex;
+use cdcl_tables::store::Store;
+use cdcl_tables::trail::Trail;
 use clause_base::formula::Formula;
 use clause_base::literal::Lit;
-use clause_base::memory::Memory;
-use clause_store::chains::Chains;
-use clause_store::index::PairIndex;
-use clause_store::store::Store;
+use containers::memory::Memory;
 use containers::{SharedListOf, let_go};
 use std::alloc::Global;
 use std::marker::Model;
@@ -58,10 +58,10 @@ pub struct Propagator {
 
 impl Model for Propagator {
     ghost use Rattle.std.specs.Prelude.{◌≡◌};
-    ghost use Rattle.cdcl_trail.specs.Assignment.{literals};
+    ghost use Rattle.cdcl_tables.specs.Assignment.{literals};
     ghost use Rattle.propagation.specs.Pending.{PropagatorView};
-    ghost use Rattle.propagation.specs.Pairs.{IsPaired};
-    ghost use Rattle.propagation.specs.Sound.{AreSound};
+    ghost use Rattle.propagation.specs.own.Pairs.{IsPaired};
+    ghost use Rattle.propagation.specs.own.Sound.{AreSound};
 
     ghost Value = { PropagatorView };
 
@@ -70,7 +70,7 @@ impl Model for Propagator {
     ghost invariant = { λ p. AreSound p.variables p.tables p.lists (literals p.trail.entries) p.quiet.items × IsPaired p.variables p.tables.store p.tables.slots.items p.pairs × (p.trail.variables ≡ p.variables) };
 }
 
-/// Letting one go is one call, in which its parts go: whoever holds one proves one step.
+/// All parts are let go in one call, so that a proof has one step for it and not one for each part.
 impl Drop for Propagator {
     fn drop(self) {
         let_go!(self: Propagator {

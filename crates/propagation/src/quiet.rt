@@ -1,12 +1,12 @@
 //! For which lengths of the trail below the whole one nothing is pending: so much is known without a look at the clauses, where
 //! the trail is taken back to one of them.
 ghost use Rattle.std.specs.Prelude.{◌≡◌, ℕ, ◌+◌, ◌*◌, ◌<◌, ◌≤◌, length, false, slice_index_or, OnOk};
-ghost use Rattle.propagation.specs.Added.{IsRaised};
+ghost use Rattle.propagation.specs.own.Added.{IsRaised};
 
 use crate::enter::Entered;
 use crate::pending::Pending;
-use cdcl_trail::assignment::Assignment;
-use clause_base::memory::Memory;
+use cdcl_tables::assignment::Assignment;
+use containers::memory::Memory;
 
 /// Takes the flags of the lengths from one up to another away.
 fn unquiet(quiet: &mut Vec<bool>, low: u32, high: u32)

@@ -1,13 +1,13 @@
 //! Room in the tables for clauses and slots to come: for one more of each, and for learned clauses from the beginning. After want of
 //! memory a table may have room for one more already, and nothing else has changed.
 ghost use Rattle.std.specs.Prelude.{◌≡◌, ℕ, ◌+◌, ◌*◌, ◌<◌, ◌≤◌, Option, length, replicate, true, vec_capacity, OnOk};
-ghost use Rattle.clause_store.specs.Linked.{IsLinked, blocking_of};
-ghost use Rattle.propagation.specs.Added.{AreSame, AreWider, HasRoom, HasRoomBelow};
+ghost use Rattle.cdcl_tables.specs.Linked.{IsLinked, blocking_of};
+ghost use Rattle.propagation.specs.own.Added.{AreSame, AreWider, HasRoom, HasRoomBelow};
 
 use crate::tables::Tables;
 use crate::visit::Lists;
-use clause_store::chains::Chains;
-use clause_store::refill::refill;
+use cdcl_tables::chains::Chains;
+use cdcl_tables::refill::refill;
 use std::alloc::AllocError;
 
 /// For so many learned clauses there is room in the tables of all clauses, and of all slots, from the beginning. Else the first one would have them moved

@@ -1,14 +1,14 @@
 //! What is found by reading the literals of a clause: how it stands, what it asks for, and another one to watch.
 ghost use Rattle.std.specs.Prelude.{◌≡◌, ℕ, ◌+◌, ◌*◌, ◌<◌, ◌≤◌, Bool, length, true, false, slice_index, MatchOption, IfSome};
 ghost use Rattle.clause_base.specs.Clause.{has_literal};
-ghost use Rattle.propagation.specs.Asks.{IsAsk};
+ghost use Rattle.propagation.specs.own.Asks.{IsAsk};
 ghost use Rattle.propagation.specs.Pending.{AreFalseBut, AreFalseFrom, IsSought, is_free};
-ghost use Rattle.propagation.specs.Status.{IsStatus};
-ghost use Rattle.cdcl_rules.specs.Pending.{is_pending, open_ones};
+ghost use Rattle.propagation.specs.own.Status.{IsStatus};
+ghost use Rattle.cdcl_defs.specs.Pending.{is_pending, open_ones};
 
 use crate::pending::NO_LITERAL;
 use crate::status::Status;
-use cdcl_trail::assignment::Assignment;
+use cdcl_tables::assignment::Assignment;
 use clause_base::literal::Lit;
 use clause_base::view::View;
 

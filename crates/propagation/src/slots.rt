@@ -1,9 +1,9 @@
 //! The slots of clauses that are watched: each has the number of one.
 ghost use Rattle.std.specs.Prelude.{◌≡◌, ◌<◌, length, false, slice_index_or};
-ghost use Rattle.cdcl_rules.specs.State.{clause_at};
-ghost use Rattle.propagation.specs.Steps.{AreStepped};
-ghost use Rattle.propagation.specs.Visit.{AreSlotsBelow};
-ghost use Rattle.propagation.specs.Tables.{clauses_in, flags_in};
+ghost use Rattle.cdcl_defs.specs.State.{clause_at};
+ghost use Rattle.propagation.specs.own.Steps.{AreStepped};
+ghost use Rattle.propagation.specs.own.Visit.{AreSlotsBelow};
+ghost use Rattle.propagation.specs.own.Tables.{clauses_in, flags_in};
 
 use crate::tables::Tables;
 use clause_base::view::View;

@@ -1,13 +1,13 @@
 //! Tables of clauses that are done with: those of the next formula's clauses are made in their memory.
 ghost use Rattle.std.specs.Prelude.{◌≡◌, ◌+◌, ◌*◌, length, replicate, true, IfOk};
-ghost use Rattle.propagation.specs.Given.{AreGiven};
+ghost use Rattle.propagation.specs.own.Given.{AreGiven};
 
 use crate::given::Given;
 use crate::quiet::fit_quiet;
 use crate::room::keep_all;
+use cdcl_tables::store::Store;
 use clause_base::formula::Formula;
-use clause_base::memory::Memory;
-use clause_store::store::Store;
+use containers::memory::Memory;
 use std::alloc::Global;
 
 /// The tables by clause, by slot and by length of the trail.

@@ -1,6 +1,6 @@
 //! How a clause stands on a trail.
 ghost use Rattle.std.specs.Prelude.{◌≡◌, ℕ, ◌∷◌, [], List, Bool, true, MatchOption};
-ghost use Rattle.propagation.specs.Status.{IsStatus};
+ghost use Rattle.propagation.specs.own.Status.{IsStatus};
 
 use clause_base::literal::Lit;
 

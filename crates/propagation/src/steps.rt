@@ -1,11 +1,11 @@
 //! Of which step of a formula the clause of each slot is. With it such a clause is read by its step and its place, without a division.
 ghost use Rattle.std.specs.Prelude.{◌≡◌, ◌+◌, ◌*◌, ◌<◌, ◌≤◌, length, IfOk};
-ghost use Rattle.propagation.specs.Steps.{ArePlaced, AreStepped, IsPlaced};
+ghost use Rattle.propagation.specs.own.Steps.{ArePlaced, AreStepped, IsPlaced};
 
 use clause_base::formula::Formula;
-use clause_base::memory::Memory;
 use clause_base::repeated::Repeated;
 use containers::let_go;
+use containers::memory::Memory;
 use std::alloc::Global;
 
 /// The clauses of the steps of a formula, and of which step those of the first slots are. In a planning formula all clauses before the
@@ -20,7 +20,7 @@ pub struct Steps {
     pub of_slots: Vec<u32>,
 }
 
-/// Letting one go is one call, in which its parts go: whoever holds one proves one step.
+/// All parts are let go in one call, so that a proof has one step for it and not one for each part.
 impl Drop for Steps {
     fn drop(self) {
         let_go!(self: Steps { part, before, size, of_slots });

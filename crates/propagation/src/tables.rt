@@ -6,7 +6,7 @@ use crate::given::Given;
 use crate::spare::Spare;
 use crate::steps::Steps;
 use crate::visit::Lists;
-use clause_store::store::Store;
+use cdcl_tables::store::Store;
 use containers::let_go;
 
 /// The clauses by number, which of them are kept, and the number and the step of each slot's clause.
@@ -18,7 +18,7 @@ pub struct Tables {
     pub steps: Steps,
 }
 
-/// Letting one go is one call, in which its parts go: whoever holds one proves one step.
+/// All parts are let go in one call, so that a proof has one step for it and not one for each part.
 impl Drop for Tables {
     fn drop(self) {
         let_go!(self: Tables { store, kept, slots, steps });

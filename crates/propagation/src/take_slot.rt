@@ -2,13 +2,13 @@
 //! wherever it is not true, and is not sought.
 ghost use Rattle.std.specs.Prelude.{◌≡◌, ℕ, ◌*◌, ◌<◌, ◌≤◌, length, slice_index, vec_capacity, IfOk, IsOk};
 ghost use Rattle.clause_base.specs.Clause.{IsClause, has_literal};
-ghost use Rattle.propagation.specs.Asks.{IsAsk};
-ghost use Rattle.propagation.specs.Added.{HasSlotRoom, IsLoose, IsTaken, IsQuietBelow};
+ghost use Rattle.propagation.specs.own.Asks.{IsAsk};
+ghost use Rattle.propagation.specs.own.Added.{HasSlotRoom, IsLoose, IsTaken, IsQuietBelow};
 
 use crate::enter::Entered;
 use crate::scan::only_ask;
 use crate::visit::Lists;
-use cdcl_trail::assignment::Assignment;
+use cdcl_tables::assignment::Assignment;
 use clause_base::literal::Lit;
 use clause_base::view::View;
 use std::alloc::AllocError;

@@ -1,17 +1,17 @@
 //! Where the trail is taken back, and which clauses are pending then.
 ghost use Rattle.std.specs.Prelude.{◌≡◌, ℕ, ◌*◌, ◌<◌, ◌≤◌, length, true, false, slice_index_or};
-ghost use Rattle.propagation.specs.Asks.{HasAsks};
-ghost use Rattle.propagation.specs.Back.{taken_back};
+ghost use Rattle.propagation.specs.own.Asks.{HasAsks};
+ghost use Rattle.propagation.specs.own.Back.{taken_back};
 ghost use Rattle.propagation.specs.Front.{IsComplete};
 ghost use Rattle.propagation.specs.Known.{AreListed};
-ghost use Rattle.propagation.specs.Tables.{AreTables, pending_in};
+ghost use Rattle.propagation.specs.own.Tables.{AreTables, pending_in};
 
 use crate::front::scan_one;
 use crate::known::scan_listed;
 use crate::pending::Pending;
 use crate::tables::Tables;
-use cdcl_trail::assignment::Assignment;
-use cdcl_trail::trail::Trail;
+use cdcl_tables::assignment::Assignment;
+use cdcl_tables::trail::Trail;
 
 /// To where a trail is taken back.
 #[derive(Clone, Copy)]

@@ -7,17 +7,17 @@ ghost use Rattle.std.specs.Prelude.{◌≡◌, ℕ, ◌*◌, ◌/◌, ◌<◌, �
 ghost use Rattle.clause_base.specs.Literal.{opposite};
 ghost use Rattle.clause_base.specs.Clause.{has_literal};
 ghost use Rattle.bit_sets.specs.Layered.{words_have};
-ghost use Rattle.propagation.specs.Asks.{HasAsks};
-ghost use Rattle.propagation.specs.Tables.{AreTables, clauses_in, flags_in};
-ghost use Rattle.propagation.specs.Visit.{AreSettled, AreVisited, GoesOn, IsAtRest, MovesToFree, Grows};
+ghost use Rattle.propagation.specs.own.Asks.{HasAsks};
+ghost use Rattle.propagation.specs.own.Tables.{AreTables, clauses_in, flags_in};
+ghost use Rattle.propagation.specs.own.Visit.{AreSettled, AreVisited, GoesOn, IsAtRest, MovesToFree, Grows};
 
 use crate::pending::Pending;
 use crate::scan::find_other;
 use crate::slots::{is_slot_kept, slot_clause};
 use crate::tables::Tables;
-use cdcl_trail::assignment::Assignment;
+use cdcl_tables::assignment::Assignment;
+use cdcl_tables::chains::{Chains, END, Place};
 use clause_base::literal::Lit;
-use clause_store::chains::{Chains, END, Place};
 use containers::let_go;
 
 /// What changes where a literal becomes false.
@@ -28,7 +28,7 @@ pub struct Lists {
     pub pending: Pending,
 }
 
-/// Letting one go is one call, in which its parts go: whoever holds one proves one step.
+/// All parts are let go in one call, so that a proof has one step for it and not one for each part.
 impl Drop for Lists {
     fn drop(self) {
         let_go!(self: Lists { chains, froms, pending });

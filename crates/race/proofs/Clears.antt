@@ -3,9 +3,9 @@ use Rattle.std.specs.List.{AllByRecursion}
 use Rattle.std.specs.List.Sorted.{IsStrictlyIncreasing}
 use Rattle.std.proofs.lemmas.List.Kept.{AllPairs-from_increasing}
 use Rattle.std.proofs.lemmas.Bool.Decides.{nat_tests}
-use Rattle.cdcl_rules.specs.declared.standing.Standing.{Standing}
-use Rattle.cdcl_rules.specs.declared.standing.Standing.TheVariants.{Going, Found, Refuted}
-use Rattle.cdcl_rules.specs.State.{State}
+use Rattle.cdcl_defs.specs.declared.standing.Standing.{Standing}
+use Rattle.cdcl_defs.specs.declared.standing.Standing.TheVariants.{Going, Found, Refuted}
+use Rattle.cdcl_defs.specs.State.{State}
 use Rattle.horizon_run.specs.Run.{RunView, choice_in, reached, IsMoved, IsReached}
 use Rattle.std.proofs.lemmas.List.{map-append}
 use Rattle.horizon_rates.specs.Horizons.{horizon_at}
@@ -17,11 +17,11 @@ use Rattle.race.specs.Lines.{IsLine}
 use Rattle.race.specs.Runs.{live_run_of, horizon_of, IsRunOf, IsLow, AreLow, AreUnfound, conflicts_of}
 use Rattle.race.specs.State.{LiveRun, conflicts_used}
 use Rattle.race.specs.Tied.{race_state, IsTied}
-use Rattle.race_end.specs.Ends.{LineView, conflicts_in, line_view}
+use Rattle.race_outcome.specs.Ends.{LineView, conflicts_in, line_view}
 use Rattle.race.specs.declared.racing.Racing.{Racing}
-use Rattle.race_end.specs.declared.line.Line.{Line}
-use Rattle.race.proofs.Starts.{all-push, same-race}
-use Rattle.race.proofs.Advances.{used-runs}
+use Rattle.race_outcome.specs.declared.line.Line.{Line}
+use Rattle.race.proofs.published.Starts.{all-push, same-race}
+use Rattle.race.proofs.published.Advances.{used-runs}
 
 from_index : (h : ℕ) (xs : List ℕ) → ((k : ℕ) → k < length xs → h < get_or xs k 0) → AllByRecursion (λ x. h < x) xs
 from_index h [] f = tt

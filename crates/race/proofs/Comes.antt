@@ -5,8 +5,8 @@ use Rattle.horizon_rates.specs.declared.settings.Settings.{Settings}
 use Rattle.horizon_rates.specs.Ledger.{Account}
 use Rattle.step_encoding.specs.declared.form.StepForm.{Ghosts}
 use Rattle.horizon_run.specs.Run.{RunView}
-use Rattle.race_end.specs.declared.end.RaceEnd.{RaceEnd}
-use Rattle.race_end.specs.Ends.{end_view, lines_of}
+use Rattle.race_outcome.specs.declared.end.RaceEnd.{RaceEnd}
+use Rattle.race_outcome.specs.Ends.{end_view, lines_of}
 use Rattle.race.specs.declared.begun.Begun.{Begun}
 use Rattle.race.specs.declared.racing.Step.{Step}
 use Rattle.race.specs.declared.racing.Step.TheVariants.{On as OnStep, End as EndStep}
@@ -16,7 +16,7 @@ use Rattle.race.specs.Grants.{advanced}
 use Rattle.race.specs.Input.{RaceInput, input_of}
 use Rattle.race.specs.Race.{Ended, judged, after_rounds}
 use Rattle.race.specs.Tied.{race_state, Stands, SpendsMore, HasEnded}
-use Rattle.race.proofs.Advances.{race-advanced}
+use Rattle.race.proofs.published.Advances.{race-advanced}
 use Rattle.race.proofs.Rounds.{after-next, ends-by}
 use Rattle.race.proofs.Told.{each-refuted, planned}
 

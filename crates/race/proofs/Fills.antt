@@ -3,16 +3,16 @@ use Rattle.std.proofs.Common.{◌≡◌, ◌≤◌, ◌∙◌, sym, ap, subst, m
 use Rattle.std.specs.List.{AllByRecursion}
 use Rattle.horizon_rates.specs.Window.{WindowState}
 use Rattle.horizon_rates.specs.Ledger.{Account}
-use Rattle.race_end.specs.Ends.{line_view}
+use Rattle.race_outcome.specs.Ends.{line_view}
 use Rattle.race.specs.declared.racing.Racing.{Racing}
 use Rattle.race.specs.Input.{RaceInput}
-use Rattle.race.specs.Filling.{IsSame}
+use Rattle.race.specs.own.Filling.{IsSame}
 use Rattle.race.specs.Lines.{AreLines}
 use Rattle.race.specs.Race.{last_started}
 use Rattle.race.specs.Runs.{live_run_of, horizon_of, IsRunOf}
 use Rattle.race.specs.State.{spent}
 use Rattle.race.specs.Tied.{race_state, IsTied, KeepsBooks}
-use Rattle.race.proofs.Starts.{same-race}
+use Rattle.race.proofs.published.Starts.{same-race}
 
 pub same-state : (old new : Racing) → IsSame old new → race_state new ≡ race_state old
 same-state old new s =

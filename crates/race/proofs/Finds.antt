@@ -1,9 +1,9 @@
 use Rattle.std.proofs.Common.{arith, ◌≡◌, ℕ, zero, suc, ◌+◌, List, [], ◌∷◌, ◌++◌, true, map, drop, Some, slice_get, refl, sym, ap, ◌∙◌, subst, append_assoc, append-nil}
 use Rattle.std.specs.List.{AllByRecursion}
 use Rattle.std.proofs.lemmas.List.{map-append}
-use Rattle.cdcl_rules.specs.declared.standing.Standing.{Standing}
-use Rattle.cdcl_rules.specs.declared.standing.Standing.TheVariants.{Going, Found, Refuted}
-use Rattle.cdcl_rules.specs.State.{State}
+use Rattle.cdcl_defs.specs.declared.standing.Standing.{Standing}
+use Rattle.cdcl_defs.specs.declared.standing.Standing.TheVariants.{Going, Found, Refuted}
+use Rattle.cdcl_defs.specs.State.{State}
 use Rattle.clause_base.specs.Formula.{Cnf}
 use Rattle.rup_check.specs.Certificate.{Stamp, Certifies}
 use Rattle.horizon_run.specs.Run.{RunView, choice_in, reached}
@@ -12,10 +12,10 @@ use Rattle.race.specs.Input.{RaceInput}
 use Rattle.race.specs.Lines.{IsLine}
 use Rattle.race.specs.Runs.{live_run_of, IsRunOf}
 use Rattle.race.specs.State.{RaceState, LiveRun, conflicts_used, spent}
-use Rattle.race_end.specs.Ends.{LineView, conflicts_in, line_view}
-use Rattle.race_end.specs.declared.line.Line.{Line}
-use Rattle.race_end.specs.declared.line.LineEnd.TheVariants as ends
-use Rattle.race.proofs.Starts.{all-push}
+use Rattle.race_outcome.specs.Ends.{LineView, conflicts_in, line_view}
+use Rattle.race_outcome.specs.declared.line.Line.{Line}
+use Rattle.race_outcome.specs.declared.line.LineEnd.TheVariants as ends
+use Rattle.race.proofs.published.Starts.{all-push}
 
 pub found-is : (s : Standing) → is_found s ≡ true → s ≡ Found
 found-is Going e = cc

@@ -4,7 +4,7 @@ use Rattle.horizon_rates.specs.Ledger.{Account}
 use Rattle.horizon_rates.specs.Quotas.{quota_at}
 use Rattle.horizon_run.specs.Run.{RunView}
 use Rattle.race.specs.Grants.{grants}
-use Rattle.race.specs.Runs.{total, Fits}
+use Rattle.race.specs.Runs.{total}
 
 pub total-push : (ns : List ℕ) (n : ℕ) → total (ns ++ n ∷ []) ≡ total ns + n
 total-push [] n = omega arith
@@ -23,12 +23,6 @@ aside-next l0 l l' items items' g e f p =
     let u = ap total p in
     let n : l0.set_aside + total items + g ≡ l0.set_aside + total items' = omega (arith, t, u) in
     f ∙ (ap (λ (m : Account). record m { set_aside = m.set_aside + g }) e ∙ ap (λ (k : ℕ). record l0 { set_aside = k }) n)
-
-pub fits-length : (rs : List RunView) (gs : List ℕ) → Fits rs gs → length rs ≡ length gs
-fits-length [] [] f = refl
-fits-length [] (g ∷ gs) f = absurd f
-fits-length (r ∷ rs) [] f = absurd f
-fits-length (r ∷ rs) (g ∷ gs) f = ap suc (fits-length rs gs f.1)
 
 pub nil : (xs : List RunView) → length xs ≡ 0 → xs ≡ []
 nil [] e = refl

@@ -1,14 +1,11 @@
 pub mod Grants
-pub mod Starts
-pub mod Advances
 pub mod Clears
 pub mod Finds
-pub mod Ends
 pub mod Rounds
 pub mod Spends
 pub mod Packed
 pub mod Booked
 pub mod Told
 pub mod Comes
-pub mod Exhausted
 pub mod Fills
+pub mod published

@@ -1,9 +1,9 @@
 use Rattle.std.proofs.Common.{arith, ◌≡◌, ℕ, zero, suc, ◌+◌, ◌-◌, ◌≤◌, ◌<◌, ◌==◌, min, List, [], ◌∷◌, ◌++◌, not, is_some, if◌then◌else◌, Bool, true, false, map, length, Option, Some, None, inl, inr, refl, sym, ap, ◌∙◌, subst}
 use Rattle.std.specs.List.{AllByRecursion}
 use Rattle.std.proofs.lemmas.Bool.{cases_lt}
-use Rattle.cdcl_rules.specs.State.{State}
-use Rattle.cdcl_rules.specs.declared.standing.Standing.{Standing}
-use Rattle.cdcl_rules.specs.declared.standing.Standing.TheVariants.{Going, Found, Refuted}
+use Rattle.cdcl_defs.specs.State.{State}
+use Rattle.cdcl_defs.specs.declared.standing.Standing.{Standing}
+use Rattle.cdcl_defs.specs.declared.standing.Standing.TheVariants.{Going, Found, Refuted}
 use Rattle.horizon_rates.specs.declared.rates.Algorithm.{Algorithm}
 use Rattle.horizon_rates.specs.declared.rates.Algorithm.TheVariants.{A, B, C}
 use Rattle.horizon_rates.specs.declared.rates.Rates.{Rates}
@@ -19,15 +19,15 @@ use Rattle.race.specs.Runs.{live_run_of, conflicts_of, total, moved_all, IsRunOf
 use Rattle.race.specs.Starts.{too_large}
 use Rattle.race.specs.State.{RaceState, LiveRun, conflicts_used, spent}
 use Rattle.race.specs.Tied.{race_state, IsTied, Stands, SpendsMore}
-use Rattle.race_end.specs.Ends.{LineView, conflicts_in}
+use Rattle.race_outcome.specs.Ends.{LineView, conflicts_in}
 use Rattle.race.specs.declared.racing.Racing.{Racing}
 use Rattle.race.specs.declared.racing.Step.{Step}
 use Rattle.race.specs.declared.racing.Step.TheVariants.{On as OnStep, End as EndStep}
 use Rattle.horizon_rates.specs.Horizons.{listed}
 use Rattle.race.proofs.Grants.{nil}
-use Rattle.race.proofs.Advances.{used-runs}
+use Rattle.race.proofs.published.Advances.{used-runs}
 use Rattle.race.proofs.Clears.{clear-off}
-use Rattle.race.proofs.Ends.{judged-plan, judged-none, settled-exhausted, settled-else, equal-true}
+use Rattle.race.proofs.published.Ends.{judged-plan, judged-none, settled-exhausted, settled-else, equal-true}
 
 -- a live run that is granted more handles a conflict, unless it is found
 one-more : (run : RunView) (g : ℕ) (standing : Standing) → IsMoved run → ((k : ℕ) → IsReached (choice_in run) run.formula k) → IsLow run → 1 ≤ g

@@ -1,12 +1,12 @@
 -- What the lines and the plan of an end say of plans, by the laws of a form.
 use Rattle.std.proofs.Common.{ℕ, List, [], ◌∷◌}
 use Rattle.clause_base.specs.Formula.{IsUnsatisfiable}
-use Rattle.cdcl_rules.specs.State.{State}
-use Rattle.race_end.specs.declared.line.Line.{Line}
-use Rattle.race_end.specs.declared.line.LineEnd.{LineEnd}
-use Rattle.race_end.specs.declared.line.LineEnd.TheVariants.{Refuted, Dropped, Going, Found}
-use Rattle.race_end.specs.declared.end.RaceEnd.{RaceEnd}
-use Rattle.race_end.specs.declared.end.RaceEnd.TheVariants.{Plan, Exhausted, Unfinished}
+use Rattle.cdcl_defs.specs.State.{State}
+use Rattle.race_outcome.specs.declared.line.Line.{Line}
+use Rattle.race_outcome.specs.declared.line.LineEnd.{LineEnd}
+use Rattle.race_outcome.specs.declared.line.LineEnd.TheVariants.{Refuted, Dropped, Going, Found}
+use Rattle.race_outcome.specs.declared.end.RaceEnd.{RaceEnd}
+use Rattle.race_outcome.specs.declared.end.RaceEnd.TheVariants.{Plan, Exhausted, Unfinished}
 use Rattle.race.specs.Input.{RaceInput}
 use Rattle.race.specs.Lines.{AreLines, IsMarked, state_of_line, WhereRefuted, EachRefuted}
 use Rattle.race.specs.Ends.{WherePlanned}

@@ -6,8 +6,8 @@ use Rattle.step_encoding.specs.declared.form.StepForm.{Ghosts}
 use Rattle.step_encoding.specs.Limits.{planner_literals}
 use Rattle.step_encoding.specs.Numbers.{literals_of}
 use Rattle.horizon_run.specs.Run.{RunView}
-use Rattle.race_end.specs.declared.end.RaceEnd.{RaceEnd}
-use Rattle.race_end.specs.Ends.{end_view, line_view, lines_of}
+use Rattle.race_outcome.specs.declared.end.RaceEnd.{RaceEnd}
+use Rattle.race_outcome.specs.Ends.{end_view, line_view, lines_of}
 use Rattle.race.specs.declared.begun.Begun.{Begun}
 use Rattle.race.specs.declared.error.RaceError.{RaceError}
 use Rattle.race.specs.declared.error.RaceError.TheVariants as errors

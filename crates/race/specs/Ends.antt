@@ -3,9 +3,9 @@ use Rattle.std.specs.Prelude.{◌≡◌, ℕ, ◌≤◌, ◌<◌, List, Bool, le
 use Rattle.std.specs.List.{AllByRecursion}
 use Rattle.gt_core.specs.Task.{Task}
 use Rattle.clause_base.specs.Formula.{IsModel}
-use Rattle.race_end.specs.declared.end.RaceEnd.{RaceEnd}
-use Rattle.race_end.specs.declared.end.RaceEnd.TheVariants as ends
-use Rattle.race_end.specs.Ends.{end_view, lines_in, conflicts_in}
+use Rattle.race_outcome.specs.declared.end.RaceEnd.{RaceEnd}
+use Rattle.race_outcome.specs.declared.end.RaceEnd.TheVariants as ends
+use Rattle.race_outcome.specs.Ends.{end_view, lines_in, conflicts_in}
 use Rattle.race.specs.Input.{RaceInput}
 
 -- a fact of the horizon and the steps of a plan

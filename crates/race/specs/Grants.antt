@@ -11,10 +11,12 @@ abbrev pub grants : Rates → (place left n : ℕ) → List ℕ
 grants rates place left zero = []
 grants rates place left (suc n) = min (quota_at rates place) left ∷ grants rates (place + 1) (left - min (quota_at rates place) left) n
 
+-- the live horizons once each was advanced by its grant
 abbrev pub raised : RaceInput → List LiveRun → List ℕ → List LiveRun
 raised input [] gs = []
 raised input (r ∷ rs) [] = r ∷ rs
 raised input (r ∷ rs) (g ∷ gs) = live_at input r.horizon (r.target + g) ∷ raised input rs gs
 
+-- the race once each live horizon was advanced by its grant
 unfoldable pub advanced : RaceInput → RaceState → RaceState
 advanced input race = record race { live = raised input race.live (grants input.rates 0 (input.budget - spent race) (length race.live)) }

@@ -9,7 +9,5 @@ pub mod Lines
 pub mod Ends
 pub mod Runs
 pub mod Tied
-pub mod Fresh
-pub mod Filling
 pub mod Begun
-pub mod Exhausted
+pub mod own

@@ -1,15 +1,15 @@
 -- What a line says, as it stands in the end of a race.
 use Rattle.std.specs.Prelude.{◌≡◌, ℕ, List}
 use Rattle.std.specs.List.{AllByRecursion}
-use Rattle.cdcl_rules.specs.declared.standing.Standing.{Standing}
-use Rattle.cdcl_rules.specs.declared.standing.Standing.TheVariants.{Going, Found, Refuted}
-use Rattle.cdcl_rules.specs.State.{State}
+use Rattle.cdcl_defs.specs.declared.standing.Standing.{Standing}
+use Rattle.cdcl_defs.specs.declared.standing.Standing.TheVariants.{Going, Found, Refuted}
+use Rattle.cdcl_defs.specs.State.{State}
 use Rattle.clause_base.specs.Formula.{IsModel}
 use Rattle.rup_check.specs.Certificate.{Certifies}
 use Rattle.horizon_run.specs.Run.{reached, truths_of}
-use Rattle.race_end.specs.declared.line.LineEnd.{LineEnd}
-use Rattle.race_end.specs.declared.line.LineEnd.TheVariants as ends
-use Rattle.race_end.specs.declared.line.Line.{Line}
+use Rattle.race_outcome.specs.declared.line.LineEnd.{LineEnd}
+use Rattle.race_outcome.specs.declared.line.LineEnd.TheVariants as ends
+use Rattle.race_outcome.specs.declared.line.Line.{Line}
 use Rattle.race.specs.Input.{RaceInput}
 
 -- how the solver stands at a line with this end
@@ -36,6 +36,7 @@ pub record IsLine (input : RaceInput) (line : Line) : Type 0 where
   pub standing : (state_of_line input line).standing ≡ standing_of line.end
   pub marked : IsMarked input line.horizon (state_of_line input line) line.end
 
+-- each line is so
 abbrev pub AreLines : RaceInput → List Line → Type 0
 AreLines input ls = AllByRecursion (IsLine input) ls
 

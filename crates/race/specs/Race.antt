@@ -2,7 +2,7 @@
 use Rattle.std.specs.Prelude.{ℕ, zero, suc, ◌+◌, ◌-◌, ◌==◌, [], ◌∷◌, Bool, false, not, Some, None, is_some, if◌then◌else◌}
 use Rattle.horizon_rates.specs.Horizons.{listed, horizon_at}
 use Rattle.horizon_run.specs.Run.{truths_of}
-use Rattle.race_end.specs.Ends.{EndView, Planned, Exhausted, Unfinished}
+use Rattle.race_outcome.specs.Ends.{EndView, Planned, Exhausted, Unfinished}
 use Rattle.race.specs.Input.{RaceInput}
 use Rattle.race.specs.State.{RaceState, start, spent}
 use Rattle.race.specs.Starts.{filled, too_large}
@@ -39,6 +39,7 @@ judged input race = elim (first_found race.live) [
   | None ↦ settled input (cleared race)
 ]
 
+-- what a round makes of a race
 unfoldable pub round : RaceInput → RaceState → Stage
 round input race = elim (too_large input (filled input race)) [ Some h ↦ TooLarge h | None ↦ judged input (advanced input (filled input race)) ]
 
@@ -48,6 +49,7 @@ next_stage input (On race) = round input race
 next_stage input (Ended end) = Ended end
 next_stage input (TooLarge h) = TooLarge h
 
+-- the stage of the race after so many rounds
 unfoldable pub after_rounds : RaceInput → ℕ → Stage
 after_rounds input zero = On start
 after_rounds input (suc r) = next_stage input (after_rounds input r)

@@ -2,7 +2,7 @@
 use Rattle.std.specs.Prelude.{◌≡◌, ℕ, false, ◌+◌, ◌-◌, ◌≤◌, List, [], ◌∷◌, length, map}
 use Rattle.std.specs.List.{AllByRecursion}
 use Rattle.std.specs.List.Sorted.{IsStrictlyIncreasing}
-use Rattle.cdcl_rules.specs.declared.standing.Standing.TheVariants.{Found, Refuted}
+use Rattle.cdcl_defs.specs.declared.standing.Standing.TheVariants.{Found, Refuted}
 use Rattle.solver_pool.specs.Job.{JobView}
 use Rattle.step_encoding.specs.Limits.{planner_literals}
 use Rattle.step_encoding.specs.Numbers.{literals_of}
@@ -14,6 +14,7 @@ use Rattle.race.specs.State.{LiveRun}
 abbrev pub live_run_of : RunView → LiveRun
 live_run_of run = record { horizon = run.formula.name; target = run.granted; state = run.state }
 
+-- the horizon of a run
 abbrev pub horizon_of : RunView → ℕ
 horizon_of run = run.formula.name
 
@@ -71,9 +72,11 @@ pub record IsLow (run : RunView) : Type 0 where
   pub granted : run.granted ≤ 1000000
   pub unrefuted : run.state.standing ≡ Refuted → ⊥
 
+-- no run was granted more than a budget may be, and none is refuted
 abbrev pub AreLow : List RunView → Type 0
 AreLow runs = AllByRecursion IsLow runs
 
+-- no run is found
 abbrev pub AreUnfound : List RunView → Type 0
 AreUnfound runs = AllByRecursion (λ run. run.state.standing ≡ Found → ⊥) runs
 

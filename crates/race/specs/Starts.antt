@@ -12,6 +12,7 @@ abbrev pub fitting : RaceInput → Option ℕ → Option ℕ
 fitting input None = None
 fitting input (Some h) = if nat_le (literals_of (input.formula h)) planner_literals then Some h else None
 
+-- the race with this horizon live
 abbrev pub started : RaceInput → ℕ → RaceState → RaceState
 started input h race = record race { live = race.live ++ live_at input h 0 ∷ []; next = race.next + 1 }
 
@@ -20,6 +21,7 @@ abbrev pub fill : RaceInput → ℕ → RaceState → RaceState
 fill input zero race = race
 fill input (suc n) race = elim (fitting input (listed input.rates race.next)) [ Some h ↦ fill input n (started input h race) | None ↦ race ]
 
+-- the race once listed horizons started in its free places
 unfoldable pub filled : RaceInput → RaceState → RaceState
 filled input race = fill input (input.rates.width - length race.live) race
 

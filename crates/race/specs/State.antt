@@ -1,8 +1,8 @@
 -- A race between two rounds.
 use Rattle.std.specs.Prelude.{ℕ, ◌+◌, List, [], ◌∷◌}
-use Rattle.cdcl_rules.specs.State.{State}
+use Rattle.cdcl_defs.specs.State.{State}
 use Rattle.horizon_run.specs.Run.{reached}
-use Rattle.race_end.specs.Ends.{LineView, conflicts_in}
+use Rattle.race_outcome.specs.Ends.{LineView, conflicts_in}
 use Rattle.race.specs.Input.{RaceInput}
 
 -- a live horizon: the conflicts that it was granted so far, and the state of its solver

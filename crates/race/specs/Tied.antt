@@ -1,8 +1,8 @@
 -- How the race in code shows the race of the definition.
 use Rattle.std.specs.Prelude.{◌≡◌, ℕ, ◌≤◌, ◌<◌, map}
 use Rattle.std.specs.List.{AllByRecursion}
-use Rattle.race_end.specs.declared.end.RaceEnd.{RaceEnd}
-use Rattle.race_end.specs.Ends.{line_view, end_view, lines_of}
+use Rattle.race_outcome.specs.declared.end.RaceEnd.{RaceEnd}
+use Rattle.race_outcome.specs.Ends.{line_view, end_view, lines_of}
 use Rattle.race.specs.declared.racing.Racing.{Racing}
 use Rattle.race.specs.declared.racing.Step.{Step}
 use Rattle.race.specs.declared.racing.Step.TheVariants.{On as OnStep, End as EndStep}
@@ -56,6 +56,7 @@ pub record Ends (input : RaceInput) (end : RaceEnd) (stage : Stage) : Type 0 whe
   pub sums : SumsWithin input.budget end
   pub modelled : WherePlanned end (AreStepsOf input)
 
+-- the step that the code is at shows this stage of the defined race
 abbrev pub Stands : RaceInput → Step → Stage → Type 0
 Stands input (OnStep racing) stage = GoesOn input racing stage
 Stands input (EndStep end) stage = Ends input end stage

@@ -9,10 +9,10 @@ ghost use Rattle.race.specs.Tied.{race_state, IsTied, Stands, SpendsMore, HasEnd
 use crate::grant::book;
 use crate::racing::{Racing, Step};
 use crate::work::conflicts_of;
-use clause_base::memory::Memory;
+use containers::memory::Memory;
 use horizon_rates::{Ledger, Settings, Window};
 use horizon_run::{AheadRun, Started};
-use race_end::Line;
+use race_outcome::Line;
 use std::alloc::Global;
 use step_encoding::form::StepForm;
 

@@ -1,7 +1,7 @@
 // Why a race has no end.
 ghost use Rattle.std.specs.Prelude.{◌≡◌};
 
-use clause_base::memory::Memory;
+use containers::memory::Memory;
 
 /// Why a race has no end.
 #[derive(Clone, Copy, PartialEq, Eq)]

@@ -2,9 +2,9 @@
 
 ghost use Rattle.std.specs.Prelude.{◌≡◌, IfOk, IfSome};
 ghost use Rattle.goal_choice.specs.Means.{gathered_of};
-ghost use Rattle.race.specs.Fresh.{IsFreshOf, IsSmall};
+ghost use Rattle.race.specs.own.Fresh.{IsFreshOf, IsSmall};
 
-use clause_base::memory::Memory;
+use containers::memory::Memory;
 use goal_choice::Supporters;
 use gt_core::task::Task;
 use horizon_run::{HorizonRun, Started, Unmade};

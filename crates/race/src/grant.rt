@@ -4,7 +4,7 @@ ghost use Rattle.horizon_rates.specs.Ledger.{left_of, SumsToBudget};
 ghost use Rattle.race.specs.Grants.{grants};
 ghost use Rattle.race.specs.Runs.{total, IsBooked};
 
-use clause_base::memory::Memory;
+use containers::memory::Memory;
 use horizon_rates::{Ledger, Rates};
 use std::alloc::Global;
 

@@ -15,6 +15,11 @@
 //! A caller that advances the runs of a round itself, as one that polls them, has a round in three parts: [`Racing::begin`], its
 //! own work, and [`Begun::end`]. [`race`] begins a round over supporters that it makes once, has workers advance the runs, and ends it by the
 //! same `end`.
+//!
+//! `racing` is a race between two rounds (window, ledger, runs, lines). `filling` starts horizons in it, with runs that need not be made, and
+//! gives each the tables of a run that ended; `grant` grants and books; `work` makes jobs of the live runs and calls `round` of solver_pool;
+//! `line` makes the line of a run; `run` is the loop. The code is tied to the definition by one relation (`specs/Tied.antt`): the race that the
+//! code is in is the defined state, and each step of the code gives the definition's step of it.
 #![tactic(auto)]
 
 mod begun;

@@ -1,12 +1,12 @@
 // The line of a horizon, by its run.
 ghost use Rattle.std.specs.Prelude.{◌≡◌, IfOk};
 ghost use Rattle.race.specs.{Clears.passed_line, Found.open_line, Input.RaceInput, Lines.IsLine, Runs.live_run_of, Runs.IsRunOf};
-ghost use Rattle.race_end.specs.Ends.{line_view};
+ghost use Rattle.race_outcome.specs.Ends.{line_view};
 
-use cdcl_rules::standing::Standing;
-use clause_base::memory::Memory;
+use cdcl_defs::standing::Standing;
+use containers::memory::Memory;
 use horizon_run::AheadRun;
-use race_end::{Line, LineEnd};
+use race_outcome::{Line, LineEnd};
 use std::alloc::Global;
 
 /// The line of a run that ended so.

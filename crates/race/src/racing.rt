@@ -9,15 +9,15 @@ ghost use Rattle.race.specs.Race.{settled, judged};
 ghost use Rattle.race.specs.Runs.{conflicts_of, live_run_of, AreLow, AreUnfound};
 ghost use Rattle.race.specs.State.{start};
 ghost use Rattle.race.specs.Tied.{race_state, IsTied, IsBetween, Stands, HasEnded, Ends};
-ghost use Rattle.race_end.specs.Ends.{conflicts_in, line_view};
+ghost use Rattle.race_outcome.specs.Ends.{conflicts_in, line_view};
 
 use crate::line::{ended, open};
 use crate::work::conflicts_of;
-use cdcl_rules::standing::Standing;
-use clause_base::memory::Memory;
+use cdcl_defs::standing::Standing;
+use containers::memory::Memory;
 use horizon_rates::{Ledger, Settings, Window};
 use horizon_run::{AheadRun, HorizonRun};
-use race_end::{Line, Lines, RaceEnd};
+use race_outcome::{Line, Lines, RaceEnd};
 use std::alloc::Global;
 use step_encoding::form::StepForm;
 

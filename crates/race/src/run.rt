@@ -3,7 +3,7 @@
 ghost use Rattle.std.specs.Prelude.{◌≡◌, ℕ, ◌+◌, ◌<◌, List, IfOk, IfErr, length};
 ghost use Rattle.goal_choice.specs.Means.{gathered_of};
 ghost use Rattle.step_encoding.specs.{Limits.planner_literals, Numbers.literals_of};
-ghost use Rattle.race_end.specs.Ends.{end_view, lines_of};
+ghost use Rattle.race_outcome.specs.Ends.{end_view, lines_of};
 ghost use Rattle.race.specs.Input.{input_of};
 ghost use Rattle.race.specs.Race.{race_of, Ended, TooLarge};
 ghost use Rattle.race.specs.Lines.{AreLines, EachRefuted};
@@ -18,7 +18,7 @@ use crate::work::advance_all;
 use goal_choice::Supporters;
 use gt_core::task::Task;
 use horizon_rates::Settings;
-use race_end::RaceEnd;
+use race_outcome::RaceEnd;
 use solver_pool::Gate;
 use std::alloc::Global;
 use std::sync::Wait;

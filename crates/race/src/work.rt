@@ -3,7 +3,7 @@ ghost use Rattle.std.specs.Prelude.{◌≡◌, ◌≤◌, false, length, map, If
 ghost use Rattle.std.specs.List.{AllByRecursion};
 ghost use Rattle.race.specs.Runs.{conflicts_of, jobs_at, run_at, moved_all, Fits, MayAdvance};
 
-use clause_base::memory::Memory;
+use containers::memory::Memory;
 use horizon_rates::Settings;
 use horizon_run::{AheadRun, Started};
 use solver_pool::{Gate, Job, Jobs, Resume, round};

@@ -10,9 +10,9 @@ use Rattle.requests.specs.Arguments.{number}
 use Rattle.requests.specs.Command.{AreReaders, command_of, race_options, workers_option}
 use Rattle.requests.specs.Fit.{IsFit}
 use Rattle.requests.specs.Passed.{Passed}
-use Rattle.requests.specs.Ranges.{Has, HasNumbers, HasSettings}
-use Rattle.requests.proofs.ListReaders.{one_passes}
-use Rattle.requests.proofs.Ranges.{number_in, found_each}
+use Rattle.requests.specs.own.Ranges.{Has, HasNumbers, HasSettings}
+use Rattle.requests.proofs.published.ListReaders.{one_passes}
+use Rattle.requests.proofs.published.Ranges.{number_in, found_each}
 
 -- the word for the first list of horizons, which is the default, passes
 list_passes : (by : Readers) → AreReaders by → accepts false by.algorithms (codes "a") ≡ true

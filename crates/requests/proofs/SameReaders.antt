@@ -5,7 +5,7 @@ use Rattle.requests.specs.declared.command.Name.TheVariants.{Plan, Check, Ground
 use Rattle.requests.specs.declared.request.Stepping.TheVariants.{Exists, All}
 use Rattle.requests.specs.declared.command.Readers.{Readers}
 use Rattle.requests.specs.Same.{IsSame}
-use Rattle.requests.proofs.ListReaders.{norm_lists}
+use Rattle.requests.proofs.published.ListReaders.{norm_lists}
 use Rattle.requests.specs.Command.{AreReaders, algorithm_words, command_of, kind_words, lists, show_words, turn_words}
 
 same_commands : (by to : Readers) → AreReaders by → AreReaders to → (name : Name) → IsSame (command_of by name) (command_of to name)

@@ -15,12 +15,15 @@ use Rattle.requests.specs.declared.request.Stepping.TheVariants.{Exists, All}
 abbrev pub algorithm_words : List Text
 algorithm_words = codes "a" ∷ codes "b" ∷ codes "c" ∷ []
 
+-- The words of the kinds of generated tasks.
 abbrev pub kind_words : List Text
 kind_words = codes "corridor" ∷ codes "gripper" ∷ []
 
+-- The words that say what `gen` shows.
 abbrev pub show_words : List Text
 show_words = codes "none" ∷ codes "domain" ∷ codes "problem" ∷ []
 
+-- The words of the orders of turns of a batch.
 abbrev pub turn_words : List Text
 turn_words = codes "forward" ∷ codes "backward" ∷ []
 
@@ -44,6 +47,7 @@ window_options algorithms =
     ∷ number (codes "percent") 1 99 (codes "50")
     ∷ []
 
+-- The options of the horizon list.
 abbrev pub list_options : List Rule
 list_options =
     number (codes "growth") 101 400 (codes "150")
@@ -51,12 +55,15 @@ list_options =
     ∷ number (codes "max-horizon") 0 255 (codes "64")
     ∷ []
 
+-- The option of the budget.
 abbrev pub budget_option : Rule
 budget_option = number (codes "budget") 0 1000000 (codes "100000")
 
+-- The options of the budget and of the slice.
 abbrev pub work_options : List Rule
 work_options = budget_option ∷ number (codes "slice") 1 10000 (codes "10") ∷ []
 
+-- The option of the workers.
 abbrev pub workers_option : Rule
 workers_option = number (codes "workers") 1 16 (codes "4")
 
@@ -64,6 +71,7 @@ workers_option = number (codes "workers") 1 16 (codes "4")
 abbrev pub race_options : ValueParser → List Rule
 race_options algorithms = window_options algorithms ++ (list_options ++ work_options)
 
+-- All options of a race.
 abbrev pub options : ValueParser → List Rule
 options algorithms = race_options algorithms ++ workers_option ∷ []
 

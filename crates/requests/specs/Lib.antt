@@ -1,10 +1,10 @@
 pub mod Among
-pub mod Command
 pub mod OneTask
-pub mod Ranges
 pub mod Requested
 pub mod Seen
 pub mod Arguments
 pub mod Fit
 pub mod Passed
 pub mod Same
+pub mod Command
+pub mod own

@@ -55,12 +55,15 @@ plans_all domain problem numbers = plans_by steppings.All domain problem numbers
 abbrev pub algorithm_of : Text → Algorithm
 algorithm_of text = if bytes_eq text (codes "b") then B else if bytes_eq text (codes "c") then C else A
 
+-- The kind that a word names.
 abbrev pub kind_of : Text → Kind
 kind_of text = if bytes_eq text (codes "gripper") then Gripper else Corridor
 
+-- What a word asks `gen` to show.
 abbrev pub show_of : Text → Show
 show_of text = if bytes_eq text (codes "domain") then shows.Domain else if bytes_eq text (codes "problem") then shows.Problem else shows.None
 
+-- The order of turns that a word names.
 abbrev pub turns_of : Text → Turns
 turns_of text = if bytes_eq text (codes "backward") then turnings.Backward else turnings.Forward
 

@@ -2,7 +2,7 @@
 ghost use Rattle.std.specs.Prelude.{◌≡◌, ◌≤◌, codes, IfOk, IfSome, option_map};
 ghost use Rattle.clap.specs.Words.{found_of, rows_of};
 ghost use Rattle.requests.specs.Passed.{text_at};
-ghost use Rattle.requests.specs.Ranges.{HasNumbers, HasSettings, Has};
+ghost use Rattle.requests.specs.own.Ranges.{HasNumbers, HasSettings, Has};
 ghost use Rattle.requests.specs.Seen.{algorithm_of, kind_of, show_of, turns_of, numbers, numbers_in, numbers_with, seen, seen_in, counted, IsSized};
 
 use crate::command::Name;

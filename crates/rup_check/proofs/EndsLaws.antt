@@ -5,7 +5,7 @@ use Rattle.std.specs.Option.{IsSomeAnd}
 use Rattle.std.proofs.lemmas.List.{take_all}
 use Rattle.clause_base.specs.Derivation.{learns_empty, EndsEmpty}
 use Rattle.clause_base.specs.declared.log.Entry.{Entry}
-use Rattle.rup_check.specs.Ends.{ends_by}
+use Rattle.rup_check.specs.own.Ends.{ends_by}
 use Rattle.rup_check.proofs.KeptLemmas.{take_more}
 
 -- the last of these entries, and whether it learns the empty clause

@@ -14,9 +14,9 @@ use Rattle.clause_base.specs.Clause.{HasVariablesBelow, has_variables_below}
 use Rattle.clause_base.specs.Derivation.{Effect, Conflicts, Forces, Loose, effect_of, goes_on, leads_to_conflict, clauses_of, drops, clause_kept, is_derived_after, IsDerivedAt}
 use Rattle.clause_base.specs.declared.log.Entry.{Entry}
 use Rattle.clause_base.specs.declared.log.Entry.TheVariants.{Learn, Drop}
-use Rattle.clause_base.proofs.ClauseLemmas.{below_from_test}
-use Rattle.clause_base.proofs.RepeatLemmas.{get_left}
-use Rattle.rup_check.specs.Kept.{is_dropped, kept_named, is_derived_by, IsKnownAfter}
+use Rattle.clause_base.proofs.published.ClauseLemmas.{below_from_test}
+use Rattle.clause_base.proofs.published.RepeatLemmas.{get_left}
+use Rattle.rup_check.specs.own.Kept.{is_dropped, kept_named, is_derived_by, IsKnownAfter}
 use Rattle.rup_check.specs.Taken.{NamesBelow}
 
 pub goes_on-same : (next other : ℕ → Bool) (ends : Bool) (e : Effect) → ((l : ℕ) → next l ≡ other l) → goes_on next ends e ≡ goes_on other ends e

@@ -3,8 +3,8 @@ use Rattle.std.proofs.Common.{arith, ◌≡◌, ℕ, zero, suc, ◌+◌, ◌<◌
 use Rattle.std.proofs.lemmas.Option.{slice_get_past}
 use Rattle.std.proofs.lemmas.List.{map-append, map-set, length-map, length-set}
 use Rattle.std.proofs.Math.Seq.{take-suc}
-use Rattle.clause_base.proofs.RepeatLemmas.{get_left}
-use Rattle.rup_check.specs.Page.{IsSlot, AreSlots, clauses_at}
+use Rattle.clause_base.proofs.published.RepeatLemmas.{get_left}
+use Rattle.rup_check.specs.own.Page.{IsSlot, AreSlots, clauses_at}
 
 slot_more : (n slot : ℕ) → IsSlot n slot → IsSlot (n + 1) slot
 slot_more n slot (inl h) = inl (omega (arith, h))

@@ -1,7 +1,7 @@
 -- What pages one after another come to as one of them changes.
 use Rattle.std.proofs.Common.{arith, ◌≡◌, ℕ, zero, suc, ◌+◌, ◌-◌, ◌*◌, ◌/◌, ◌%◌, ◌<◌, ◌≤◌, List, [], ◌∷◌, ◌++◌, length, set, get_or, Bool, true, false, Result, Ok, refl, sym, ap, ◌∙◌, subst, append-nil, append_assoc, length-append}
 use Rattle.std.proofs.lemmas.List.{get_or_past, get_or_append_left, get_or-append-add, get_or_read, set-get_or, length-set}
-use Rattle.rup_check.specs.Pages.{joined, AreFull, AreWhole}
+use Rattle.rup_check.specs.own.Pages.{joined, AreFull, AreWhole}
 
 module _ {A : Type 0} where
   -- the item with a number stands in its page, at its place there

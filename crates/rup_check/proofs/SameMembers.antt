@@ -2,9 +2,10 @@
 use Rattle.std.proofs.Common.{◌≡◌, ◌==◌, ℕ, List, [], ◌∷◌, ◌++◌, length, Bool, true, false, ◌||◌, not, Option, Some, None, if◌then◌else◌, fold, refl, sym, ap, ◌∙◌}
 use Rattle.std.proofs.lemmas.List.Folds.{list_any-append}
 use Rattle.clause_base.specs.Literal.{opposite}
-use Rattle.clause_base.specs.Clause.{has_literal, put}
+use Rattle.clause_base.specs.Clause.{has_literal}
+use Rattle.containers.specs.Rising.{put}
 use Rattle.clause_base.specs.Derivation.{Forces, Loose, open_literals, effect_of_open, effect_of, goes_on, leads_to_conflict}
-use Rattle.clause_base.proofs.ClauseLemmas.{list_any-put, list_any-fold}
+use Rattle.clause_base.proofs.published.ClauseLemmas.{list_any-put, list_any-fold}
 use Rattle.rup_check.proofs.KeptLemmas.{goes_on-same}
 
 -- two lists have the same literals

@@ -9,10 +9,10 @@ use Rattle.clause_base.specs.Derivation.{IsDerivation, IsDerivedAt, EndsEmpty, i
 use Rattle.clause_base.specs.declared.log.Entry.{Entry}
 use Rattle.clause_base.specs.declared.log.Entry.TheVariants.{Learn, Drop}
 use Rattle.containers.specs.declared.memory.Memory.{Memory}
-use Rattle.clause_base.proofs.Refutation.{unsatisfiable_from_refutation}
-use Rattle.clause_log.proofs.Turns.{turn}
-use Rattle.rup_check.specs.Falsified.{FalsifiedView}
-use Rattle.rup_check.specs.Kept.{kept_named, is_derived_by, IsKnownAfter}
+use Rattle.clause_base.proofs.published.Refutation.{unsatisfiable_from_refutation}
+use Rattle.proof_log.proofs.published.Turns.{turn}
+use Rattle.rup_check.specs.own.Falsified.{FalsifiedView}
+use Rattle.rup_check.specs.own.Kept.{kept_named, is_derived_by, IsKnownAfter}
 use Rattle.rup_check.specs.Taken.{CheckerView, HasTaken, IsSound, NamesBelow}
 use Rattle.rup_check.proofs.KeptLemmas.{named_next, is_derived_by-known, known-more, known-none, any-append, below-next, below-none, learn_named, take_more}
 

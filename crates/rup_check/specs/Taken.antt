@@ -5,7 +5,7 @@ use Rattle.clause_base.specs.Clause.{HasVariablesBelow}
 use Rattle.clause_base.specs.Formula.{Cnf, IsUnsatisfiable}
 use Rattle.clause_base.specs.Derivation.{IsDerivation, learns_empty}
 use Rattle.clause_base.specs.declared.log.Entry.{Entry}
-use Rattle.rup_check.specs.Kept.{IsKnownAfter, kept_named}
+use Rattle.rup_check.specs.own.Kept.{IsKnownAfter, kept_named}
 
 -- the formula, what is known after the entries so far, and whether one of them learned the empty clause
 pub record CheckerView : Type 0 where

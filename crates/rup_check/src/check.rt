@@ -7,8 +7,8 @@ ghost use Rattle.rup_check.specs.declared.check.CheckError.TheVariants as error;
 use crate::checker::Checker;
 use crate::steps::{learns_empty, take_step};
 use clause_base::formula::Formula;
-use clause_base::memory::Memory;
-use clause_log::log::Log;
+use containers::memory::Memory;
+use proof_log::log::Log;
 use std::alloc::Global;
 use std::marker::Model;
 

@@ -4,7 +4,7 @@ ghost use Rattle.clause_base.specs.Formula.{IsUnsatisfiable};
 ghost use Rattle.clause_base.specs.Derivation.{is_derived_after};
 ghost use Rattle.clause_base.specs.declared.log.Entry.{Entry};
 ghost use Rattle.clause_base.specs.declared.log.Entry.TheVariants.{Learn as learn_entry, Drop as drop_entry};
-ghost use Rattle.rup_check.specs.Kept.{kept_named, is_derived_by};
+ghost use Rattle.rup_check.specs.own.Kept.{kept_named, is_derived_by};
 ghost use Rattle.rup_check.specs.Taken.{HasTaken, NamesBelow};
 
 use crate::entry::is_learnable;
@@ -12,7 +12,7 @@ use crate::falsified::Falsified;
 use crate::kept::Kept;
 use clause_base::formula::Formula;
 use clause_base::literal::Lit;
-use clause_base::memory::Memory;
+use containers::memory::Memory;
 use std::alloc::Global;
 use std::marker::Model;
 

@@ -1,7 +1,7 @@
 ghost use Rattle.std.specs.Prelude.{◌≡◌};
 ghost use Rattle.clause_base.specs.Clause.{HasVariablesBelow};
 ghost use Rattle.clause_base.specs.Derivation.{open_literals, effect_of_open};
-ghost use Rattle.rup_check.specs.Effects.{meaning, ForcesBelow};
+ghost use Rattle.rup_check.specs.own.Effects.{meaning, ForcesBelow};
 
 use crate::falsified::Falsified;
 use clause_base::literal::Lit;

@@ -1,8 +1,9 @@
 ghost use Rattle.std.specs.Prelude.{◌≡◌, [], fold, length, IfOk, OnOk};
-ghost use Rattle.clause_base.specs.Clause.{HasVariablesBelow, has_variables_below, put};
+ghost use Rattle.clause_base.specs.Clause.{HasVariablesBelow, has_variables_below};
+ghost use Rattle.containers.specs.Rising.{put};
 ghost use Rattle.clause_base.specs.Derivation.{leads_to_conflict};
 ghost use Rattle.clause_base.specs.declared.log.Entry.TheVariants.{Learn as learn_entry};
-ghost use Rattle.rup_check.specs.Kept.{kept_named, is_derived_by};
+ghost use Rattle.rup_check.specs.own.Kept.{kept_named, is_derived_by};
 ghost use Rattle.rup_check.specs.Taken.{NamesBelow};
 
 use crate::effect::{Effect, effect_of};
@@ -11,7 +12,7 @@ use crate::kept::Kept;
 use crate::left::Left;
 use clause_base::formula::Formula;
 use clause_base::literal::Lit;
-use clause_base::memory::Memory;
+use containers::memory::Memory;
 
 /// Whether the hints lead from what is taken as false to a conflict, where they name kept clauses. Each forced literal's
 /// negation is then taken as false too.

@@ -1,9 +1,10 @@
 ghost use Rattle.std.specs.Prelude.{◌≡◌, [], ◌/◌, ◌<◌, ◌≤◌, IfOk, OnOk};
-ghost use Rattle.clause_base.specs.Clause.{has_literal, put};
+ghost use Rattle.clause_base.specs.Clause.{has_literal};
+ghost use Rattle.containers.specs.Rising.{put};
 
+use bit_sets::marks::Marks;
 use clause_base::literal::Lit;
-use clause_base::memory::Memory;
-use lit_marks::marks::Marks;
+use containers::memory::Memory;
 use std::alloc::Global;
 use std::marker::Model;
 
@@ -17,8 +18,8 @@ pub struct Falsified {
 
 impl Model for Falsified {
     ghost use Rattle.std.specs.Prelude.{◌≡◌, ◌*◌, length};
-    ghost use Rattle.lit_marks.specs.Marks.{places};
-    ghost use Rattle.rup_check.specs.Falsified.{FalsifiedView};
+    ghost use Rattle.bit_sets.specs.Marks.{places};
+    ghost use Rattle.rup_check.specs.own.Falsified.{FalsifiedView};
 
     ghost Value = { FalsifiedView };
 
@@ -44,7 +45,7 @@ impl Falsified {
         requires { lit / 2 < self.now.variables }
         ensures { result ≡ has_literal self.now.falsified lit }
     {
-        self.marks.has(lit)
+        self.marks.has(lit.0)
     }
 
     /// Takes the literal as false.
@@ -53,7 +54,7 @@ impl Falsified {
         ensures falsified { OnOk result (self.new.falsified ≡ put self.old.falsified lit) }
         ensures variables { self.new.variables ≡ self.old.variables }
     {
-        self.marks.put(lit)
+        self.marks.put(lit.0)
     }
 
     /// Takes no literal as false any more. Only those that were are looked at.

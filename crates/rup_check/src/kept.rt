@@ -1,11 +1,11 @@
 ghost use Rattle.std.specs.Prelude.{◌≡◌, ◌∷◌, [], ◌+◌, ◌++◌, ◌==◌, ℕ, false, Some, None, length, replicate, slice_index_or, if◌then◌else◌, IfOk, OnOk, OnErr, IsSome};
-ghost use Rattle.rup_check.specs.Kept.{kept_named};
+ghost use Rattle.rup_check.specs.own.Kept.{kept_named};
 
 use crate::pages::Pages;
 use clause_base::formula::Formula;
 use clause_base::literal::Lit;
-use clause_base::memory::Memory;
 use clause_base::view::View;
+use containers::memory::Memory;
 use std::alloc::Global;
 
 /// What is known after some entries: for each clause of the formula whether it was dropped, and the clauses that the entries

@@ -11,6 +11,11 @@
 //! neither; `falsified` has the literals that are taken as false.
 //!
 //! `pages` has the clauses that were learned, of which those that are dropped give their room back.
+//!
+//! What `check` accepts is a `Checked`, which nothing else makes. `effect` tells what the clause of a hint says over the literals that are taken
+//! as false (`Falsified`). A table says which of the formula's clauses were dropped, so a hint finds its clause in constant time. A page whose
+//! clauses are more than half gone is packed anew, one that still grows only once 32 are gone: what is kept is at most about twice the clauses
+//! that are there, and two bytes a number.
 #![tactic(auto)]
 
 pub mod check;

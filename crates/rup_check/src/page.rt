@@ -26,7 +26,7 @@ pub struct Page {
 
 impl Model for Page {
     ghost use Rattle.std.specs.Prelude.{List, ℕ, Option, ◌≤◌, length};
-    ghost use Rattle.rup_check.specs.Page.{AreSlots, clauses_at};
+    ghost use Rattle.rup_check.specs.own.Page.{AreSlots, clauses_at};
 
     ghost Value = { List (Option (List ℕ)) };
 

@@ -4,7 +4,7 @@
 //! rising, so the clauses stand in pages of 128 numbers each; a page in which more than half of the clauses that stand there were
 //! taken out is packed anew. Of a number whose clause was taken out there is one byte left, and its part of the page's table.
 ghost use Rattle.std.specs.Prelude.{◌≡◌, ◌∷◌, [], ◌++◌, ◌<◌, Ok, true, false, Some, None, length, set, slice_index_or, IfSome, IfNone, OnOk, OnErr};
-ghost use Rattle.rup_check.specs.Pages.{joined, AreFull, AreWhole};
+ghost use Rattle.rup_check.specs.own.Pages.{joined, AreFull, AreWhole};
 
 use crate::page::{PAGE, Page};
 use clause_base::literal::Lit;
@@ -20,7 +20,7 @@ pub struct Pages {
 
 impl Model for Pages {
     ghost use Rattle.std.specs.Prelude.{List, ℕ, Option};
-    ghost use Rattle.rup_check.specs.Pages.{joined, AreFull};
+    ghost use Rattle.rup_check.specs.own.Pages.{joined, AreFull};
 
     ghost Value = { List (Option (List ℕ)) };
 

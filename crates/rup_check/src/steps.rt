@@ -2,12 +2,12 @@
 ghost use Rattle.std.specs.Prelude.{◌≡◌, ◌∷◌, [], ◌++◌, ℕ, List, true, Some, IfOk};
 ghost use Rattle.clause_base.specs.Derivation.{is_derived_after, learns_empty};
 ghost use Rattle.clause_base.specs.declared.log.Entry.{Entry};
-ghost use Rattle.clause_log.specs.Step.{told_by, IsLawfulBy};
+ghost use Rattle.proof_log.specs.Step.{told_by, IsLawfulBy};
 ghost use Rattle.rup_check.specs.Taken.{HasTaken};
 
 use crate::checker::Checker;
-use clause_base::memory::Memory;
-use clause_log::reader::Kind;
+use containers::memory::Memory;
+use proof_log::reader::Kind;
 
 /// Whether an entry learns the empty clause.
 pub fn learns_empty(kind: Kind<'_>) -> bool

@@ -3,7 +3,7 @@ use Rattle.std.proofs.Common.{◌≡◌, ◌∙◌, ◌<◌, ◌≤◌, ◌+◌,
 use Rattle.std.specs.Prelude.{Some, None}
 use Rattle.std.specs.Char.{is_ascii_digit}
 use Rattle.sat_text.specs.Words.{natural_of, value_of, value_with}
-use Rattle.sat_text.specs.Cut.{digits_front, after_digits}
+use Rattle.sat_text.specs.own.Cut.{digits_front, after_digits}
 use Rattle.sat_text.proofs.WordsLaws.{first_digit, front_all_digits, grows, natural_large, natural_leading, natural_no_digit, natural_some}
 
 -- a number of so many digits is below this one

@@ -9,7 +9,7 @@ use Rattle.std.proofs.Math.Seq.{drop-cons}
 use Rattle.std.proofs.lemmas.List.{drop_all}
 use Rattle.std.proofs.lemmas.Simd.{Each1-replicate}
 use Rattle.sat_text.specs.Words.{value_of, value_with}
-use Rattle.sat_text.specs.Short.{eight_of, told_by}
+use Rattle.sat_text.specs.own.Short.{eight_of, told_by}
 use Rattle.sat_text.proofs.FewDigits.{digit_least, digit_most}
 
 abbrev number : List ℕ → ℕ

@@ -11,7 +11,7 @@ use Rattle.std.proofs.lemmas.Bool.{le-leb, lt-leb, leb-true, leb-false}
 use Rattle.std.proofs.lemmas.Bool.Decides.{nat_tests}
 use lib.Count.{count_trailing_zeros}
 use Rattle.sat_text.specs.Words.{words_of, value_of, is_natural, natural_of, first_number}
-use Rattle.sat_text.specs.Cut.{is_other, after_blanks, digits_front, after_digits, ends_word}
+use Rattle.sat_text.specs.own.Cut.{is_other, after_blanks, digits_front, after_digits, ends_word}
 use Rattle.sat_text.specs.declared.words.Signed.{Signed}
 use Rattle.sat_text.proofs.WordsLaws.{digit_no_blank, natural_some, front_all_digits, first_digit, natural_front, front_is_digits, plain_number, plain_after, words_after_blanks}
 

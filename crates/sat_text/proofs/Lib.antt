@@ -1,12 +1,10 @@
 pub mod WordsLaws
 pub mod Digits
 pub mod LineLaws
-pub mod Texts
-pub mod Pieces
 pub mod Fronts
 pub mod FewDigits
 pub mod Eight
 pub mod DimacsLines
 pub mod ValueMarks
 pub mod ValueNumbers
-pub mod ValueReading
+pub mod published

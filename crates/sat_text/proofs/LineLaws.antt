@@ -1,5 +1,5 @@
 -- Numbers read up to a 0, one after another.
-use Rattle.std.proofs.Common.{◌≡◌, ◌==◌, ◌||◌, Result, Ok, not, ℕ, List, [], ◌∷◌, ◌++◌, length, map, filter, drop, Bool, true, false, Option, Some, None, option_map, if◌then◌else◌, refl, sym, ap, ◌∙◌, subst, append_assoc, append-nil}
+use Rattle.std.proofs.Common.{◌≡◌, ◌==◌, ◌||◌, Result, Ok, not, ℕ, List, [], ◌∷◌, ◌++◌, map, filter, drop, Bool, true, false, Option, Some, None, option_map, if◌then◌else◌, refl, sym, ap, ◌∙◌, subst, append_assoc, append-nil}
 use Rattle.std.specs.Prelude.{codes}
 use Rattle.std.specs.List.{list_any}
 use Rattle.std.proofs.lemmas.List.{map-append}
@@ -12,7 +12,7 @@ use Rattle.sat_text.specs.declared.lrat_line.Part.TheVariants.{Literals, Ids}
 use Rattle.sat_text.specs.Words.{first_number, words_of, begins_with}
 use Rattle.sat_text.proofs.WordsLaws.{not_zero}
 use Rattle.sat_text.specs.LratLine.{line_of, up_to_zero, all_to_zero, addition, deletion, rest_of, codes_of, code_of, has_code, plain_ids, IsHeld}
-use Rattle.sat_text.specs.Reading.{Reads, ReadsLiterals, ReadsIds}
+use Rattle.sat_text.specs.own.Reading.{Reads, ReadsLiterals, ReadsIds}
 
 -- numbers that were read, and the words that are left, with these before them
 abbrev Read : Type 0
@@ -25,16 +25,6 @@ ahead passed read = (passed ++ read.0, read.1)
 pub up_more : (words : List (List ℕ)) (told : Signed) → first_number words ≡ Some told → (told.number == 0) ≡ false → up_to_zero words ≡ option_map (ahead (told ∷ [])) (up_to_zero (drop 1 words))
 up_more [] told is apart = absurd (let never : None ≡ Some told = is in cc)
 up_more (word ∷ words) told is apart = rw (is, apart) refl
-
--- a 0 ends them
-pub up_zero : (words : List (List ℕ)) (told : Signed) → first_number words ≡ Some told → (told.number == 0) ≡ true → up_to_zero words ≡ Some ([], drop 1 words)
-up_zero [] told is zero = absurd (let never : None ≡ Some told = is in cc)
-up_zero (word ∷ words) told is zero = rw (is, zero) refl
-
--- where no number is next there are none
-pub up_none : (words : List (List ℕ)) → first_number words ≡ None → up_to_zero words ≡ None
-up_none [] none = refl
-up_none (word ∷ words) none = rw none refl
 
 -- what is read of words is these numbers, and then what is read of the words that are left
 abbrev pub Passes : List (List ℕ) → List (List ℕ) → List Signed → Type 0
@@ -55,12 +45,6 @@ pub passes_more : (all left next : List (List ℕ)) (passed : List Signed) (told
 passes_more all left next passed told p is apart goes_on =
     let more : Passes all (drop 1 left) (passed ++ told ∷ []) = p ∙ ap (option_map (ahead passed)) (up_more left told (sym is) (not_zero told.number apart)) ∙ onto passed told (up_to_zero (drop 1 left)) in
     subst (λ (words : List (List ℕ)). Passes all words (passed ++ told ∷ [])) (sym goes_on) more
-
-pub passes_zero : (all left : List (List ℕ)) (passed : List Signed) (told : Signed) → Passes all left passed → Some told ≡ first_number left → (told.number == 0) ≡ true → up_to_zero all ≡ Some (passed, drop 1 left)
-passes_zero all left passed told p is zero = p ∙ ap (option_map (ahead passed)) (up_zero left told (sym is) zero) ∙ ap (λ (numbers : List Signed). Some (numbers, drop 1 left)) (append-nil passed)
-
-pub passes_end : (all left : List (List ℕ)) (passed : List Signed) → Passes all left passed → None ≡ first_number left → up_to_zero all ≡ None
-passes_end all left passed p none = p ∙ ap (option_map (ahead passed)) (up_none left (sym none))
 
 -- ---- what is held
 
@@ -101,34 +85,13 @@ reads_then Ids old middle new numbers others r s = record {
 
 -- ---- whole lines
 
-pub all_is : (all left : List (List ℕ)) (ids : List Signed) → up_to_zero all ≡ Some (ids, left) → (length left == 0) ≡ true → all_to_zero all ≡ Some ids
-all_is all left ids is zero = rw (is, zero) refl
-
-pub all_none : (all : List (List ℕ)) → up_to_zero all ≡ None → all_to_zero all ≡ None
-all_none all none = rw none refl
-
-pub all_longer : (all left : List (List ℕ)) (ids : List Signed) → up_to_zero all ≡ Some (ids, left) → (length left == 0) ≡ false → all_to_zero all ≡ None
-all_longer all left ids is more = rw (is, more) refl
-
 pub addition_is : (id : ℕ) (words left : List (List ℕ)) (literals hints : List Signed) → up_to_zero words ≡ Some (literals, left) → all_to_zero left ≡ Some hints
     → addition id words ≡ Some (record { id = id; deletes = false; literals = literals; hints = hints })
 addition_is id words left literals hints is rest = rw (is, rest) refl
 
-pub addition_none : (id : ℕ) (words : List (List ℕ)) → up_to_zero words ≡ None → addition id words ≡ None
-addition_none id words none = rw none refl
-
-pub addition_cut : (id : ℕ) (words left : List (List ℕ)) (literals : List Signed) → up_to_zero words ≡ Some (literals, left) → all_to_zero left ≡ None → addition id words ≡ None
-addition_cut id words left literals is none = rw (is, none) refl
-
 pub deletion_is : (id : ℕ) (words : List (List ℕ)) (ids : List Signed) → all_to_zero words ≡ Some ids → list_any (λ told. told.minus) ids ≡ false
     → deletion id words ≡ Some (record { id = id; deletes = true; literals = []; hints = ids })
 deletion_is id words ids is plain = rw (is, plain) refl
-
-pub deletion_minus : (id : ℕ) (words : List (List ℕ)) (ids : List Signed) → all_to_zero words ≡ Some ids → list_any (λ told. told.minus) ids ≡ true → deletion id words ≡ None
-deletion_minus id words ids is minus = rw (is, minus) refl
-
-pub deletion_none : (id : ℕ) (words : List (List ℕ)) → all_to_zero words ≡ None → deletion id words ≡ None
-deletion_none id words none = rw none refl
 
 -- a line that adds a clause is held, once its parts were read
 pub held_addition : (old middle new : Line) (literals hints : List Signed) → IsHeld (record { id = old.id; deletes = false; literals = []; hints = [] }) old → ReadsLiterals old middle literals → ReadsIds middle new hints

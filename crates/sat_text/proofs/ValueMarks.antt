@@ -1,11 +1,10 @@
 -- What a table tells after a literal more.
-use Rattle.std.proofs.Common.{◌≡◌, ◌≢◌, ◌==◌, ◌&&◌, ◌||◌, ◌<◌, ◌≤◌, ◌+◌, not, ℕ, List, [], ◌∷◌, ◌++◌, length, get_or, set, map, Bool, true, false, if◌then◌else◌, refl, sym, ap, ◌∙◌, arith, inl, inr, length-set, replicate, subst}
+use Rattle.std.proofs.Common.{◌≡◌, ◌≢◌, ◌==◌, ◌&&◌, ◌||◌, ◌<◌, ◌≤◌, ◌+◌, not, ℕ, List, [], ◌∷◌, ◌++◌, length, get_or, set, Bool, true, false, if◌then◌else◌, refl, sym, ap, ◌∙◌, arith, inl, inr, length-set, subst}
 use Rattle.std.specs.Prelude.{nat_le}
-use Rattle.std.specs.List.{range_with_len}
 use Rattle.std.proofs.Math.Bool.{or-true}
 use Rattle.std.proofs.lemmas.Bool.{eq-eqb, le-leb, lt-leb}
 use Rattle.std.proofs.lemmas.Bool.Decides.{eqb_tells}
-use Rattle.std.proofs.lemmas.List.{ext_get_or, length-replicate, get_or-replicate, get_or-set_other}
+use Rattle.std.proofs.lemmas.List.{ext_get_or, get_or-set_other}
 use Rattle.std.proofs.lemmas.List.FromFn.{length-map-range_with_len, get_or-map-range_with_len}
 use Rattle.std.proofs.lemmas.Grind.{get_or-set_at}
 use Rattle.sat_text.specs.declared.words.Signed.{Signed}
@@ -111,13 +110,6 @@ module _ (variables : ℕ) (literals : List Signed) (told : Signed) where
 
       pub refused_plain : told.minus ≡ false → get_or table.falsehoods place false ≡ true → may ≡ false
       refused_plain sign some = free true true sign (at_number true table.falsehoods holds.falsehoods ∙ some)
-
--- nothing is told of a row without marks
-pub no_marks : (variables : ℕ) (minus : Bool) (row : List Bool) → row ≡ replicate variables false → Marks variables [] minus row
-no_marks variables minus row is = record {
-  long = ap (λ (r : List Bool). length r) is ∙ length-replicate variables false;
-  marks = λ v lt. ap (λ (r : List Bool). get_or r v false) is ∙ get_or-replicate variables v false false lt;
-}
 
 -- a row is the values that are told
 pub row_is : (variables : ℕ) (literals : List Signed) (row : List Bool) → Marks variables literals false row → row ≡ values_told variables literals

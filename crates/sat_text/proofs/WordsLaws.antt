@@ -7,7 +7,7 @@ use Rattle.std.proofs.lemmas.Bool.{eqb-true, eq-eqb, lt-ltb, le-ltb}
 use Rattle.std.proofs.lemmas.Bool.Decides.{eqb_tells, nat_tests}
 use Rattle.sat_text.specs.declared.words.Signed.{Signed}
 use Rattle.sat_text.specs.Words.{is_blank, is_some, words_of, value_of, value_with, is_natural, natural_of, negative, number_of, first_number, begins_with}
-use Rattle.sat_text.specs.Cut.{after_blanks, digits_front, after_digits, word_front, after_word, ends_word}
+use Rattle.sat_text.specs.own.Cut.{after_blanks, digits_front, after_digits, word_front, after_word, ends_word}
 
 -- the parts after the first one
 abbrev later : List ℕ → List (List ℕ)
@@ -256,9 +256,6 @@ natural_large (b ∷ digits) large = by (list_all is_ascii_digit (b ∷ digits))
 -- one digit more
 pub digits_more : (b : ℕ) (bytes : List ℕ) → is_ascii_digit b ≡ true → (digits_front (b ∷ bytes) ≡ b ∷ digits_front bytes) × (after_digits (b ∷ bytes) ≡ after_digits bytes)
 digits_more b bytes d = (rw d refl, rw d refl)
-
-pub digits_end : (b : ℕ) (bytes : List ℕ) → is_ascii_digit b ≡ false → (digits_front (b ∷ bytes) ≡ []) × (after_digits (b ∷ bytes) ≡ b ∷ bytes)
-digits_end b bytes d = (rw d refl, rw d refl)
 
 -- the first digit is the first byte, where there is a digit
 pub first_digit : (bytes : List ℕ) → 0 < length (digits_front bytes) → get_or (digits_front bytes) 0 0 ≡ get_or bytes 0 0

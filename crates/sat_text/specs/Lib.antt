@@ -1,10 +1,8 @@
-pub mod Words
-pub mod Cut
-pub mod Short
 pub mod LratLine
-pub mod Reading
 pub mod Lines
 pub mod Dimacs
 pub mod FirstFalse
 pub mod Values
 pub mod Stands
+pub mod Words
+pub mod own

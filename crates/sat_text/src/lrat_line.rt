@@ -3,11 +3,11 @@ ghost use Rattle.std.specs.Prelude.{◌≡◌, ◌<◌, ◌++◌, ◌∷◌, ◌
 ghost use Rattle.std.specs.List.{list_any};
 ghost use Rattle.sat_text.specs.declared.words.Signed.{Signed};
 ghost use Rattle.sat_text.specs.LratLine.{LineView, IsHeld, line_of, up_to_zero, all_to_zero, addition, deletion, rest_of};
-ghost use Rattle.sat_text.specs.Reading.{Reads, ReadsLiterals, ReadsIds};
+ghost use Rattle.sat_text.specs.own.Reading.{Reads, ReadsLiterals, ReadsIds};
 
 use crate::words::{Signed, Words};
 use clause_base::literal::Lit;
-use clause_base::memory::Memory;
+use containers::memory::Memory;
 use std::alloc::Global;
 
 /// The largest number of a variable in a line, where they are counted from 1, that a literal has a code for.

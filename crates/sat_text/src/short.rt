@@ -5,8 +5,8 @@ ghost use Rattle.std.specs.Char.{is_ascii_digit};
 ghost use Rattle.std.specs.List.{prefix_len, list_all};
 ghost use Rattle.std.specs.Simd.Lanes.{mask_l, number_l, Each1};
 ghost use Rattle.sat_text.specs.Words.{natural_of};
-ghost use Rattle.sat_text.specs.Cut.{is_other, digits_front, after_digits};
-ghost use Rattle.sat_text.specs.Short.{eight_of, told_by};
+ghost use Rattle.sat_text.specs.own.Cut.{is_other, digits_front, after_digits};
+ghost use Rattle.sat_text.specs.own.Short.{eight_of, told_by};
 
 use std::simd::prelude::*;
 

@@ -7,7 +7,7 @@ ghost use Rattle.sat_text.specs.Stands.{HasTold, Goes};
 
 use crate::values::Values;
 use crate::words::{Signed, Words};
-use clause_base::memory::Memory;
+use containers::memory::Memory;
 use std::alloc::Global;
 use std::marker::Model;
 

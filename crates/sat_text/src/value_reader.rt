@@ -22,7 +22,7 @@ ghost use Rattle.sat_text.specs.Stands.{HasTold, Goes, HasRead};
 
 use crate::lines::first_line;
 use crate::value_lines::Lines;
-use clause_base::memory::Memory;
+use containers::memory::Memory;
 use std::alloc::Global;
 use std::marker::Model;
 

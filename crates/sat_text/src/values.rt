@@ -5,7 +5,7 @@ ghost use Rattle.sat_text.specs.Values.{tells};
 ghost use Rattle.sat_text.specs.Stands.{Marks, Holds};
 
 use crate::words::Signed;
-use clause_base::memory::Memory;
+use containers::memory::Memory;
 use std::alloc::Global;
 use std::marker::Model;
 

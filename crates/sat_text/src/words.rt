@@ -2,7 +2,7 @@
 ghost use Rattle.std.specs.Prelude.{◌≡◌, ◌<◌, ◌==◌, ◌+◌, ◌*◌, ◌-◌, ◌≤◌, ◌∷◌, List, [], ℕ, Bool, IfSome, IfNone, IsSomeAnd, Some, None, true, false, codes, slice_index, take, drop, length, nat_lt, if◌then◌else◌};
 ghost use Rattle.std.specs.Char.{is_ascii_digit};
 ghost use Rattle.sat_text.specs.Words.{is_blank, words_of, value_of, value_with, natural_of, first_number, begins_with};
-ghost use Rattle.sat_text.specs.Cut.{after_blanks, digits_front, after_digits, word_front, after_word, ends_word};
+ghost use Rattle.sat_text.specs.own.Cut.{after_blanks, digits_front, after_digits, word_front, after_word, ends_word};
 
 use crate::short::short_number;
 use std::marker::Model;

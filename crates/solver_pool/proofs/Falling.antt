@@ -5,10 +5,10 @@ use Rattle.std.proofs.lemmas.List.Sums.{sum_by_push}
 use Rattle.solver_pool.specs.declared.resume.Resume.{Ghosts}
 use Rattle.solver_pool.specs.declared.pass_view.PassView.{PassView}
 use Rattle.solver_pool.specs.Job.{JobView, note_of}
-use Rattle.solver_pool.specs.PassView.{IsAlone}
-use Rattle.solver_pool.specs.Steps.{Takes, Puts}
-use Rattle.solver_pool.specs.Serve.{IsAdvanced, GoesOn}
-use Rattle.solver_pool.specs.Left.{left_at, left_in, Falls}
+use Rattle.solver_pool.specs.own.PassView.{IsAlone}
+use Rattle.solver_pool.specs.own.Steps.{Takes, Puts}
+use Rattle.solver_pool.specs.own.Serve.{IsAdvanced, GoesOn}
+use Rattle.solver_pool.specs.own.Left.{left_at, left_in, Falls}
 use Rattle.solver_pool.proofs.OneTurn.{went}
 
 module _ {R : Type 0} (g : Ghosts R) where

@@ -7,9 +7,9 @@ use Rattle.crossbeam_queue.specs.Passes.{view}
 use Rattle.solver_pool.specs.declared.resume.Resume.{Ghosts}
 use Rattle.solver_pool.specs.Resume.{IsMoved, SettledStays}
 use Rattle.solver_pool.specs.Job.{JobView}
-use Rattle.solver_pool.specs.PassView.{with_take}
-use Rattle.solver_pool.specs.Serve.{Turn, taken_note, IsDone, IsEnded, IsAdvanced, GoesOn}
-use Rattle.solver_pool.specs.Worker.{IsHanded, StaysAtWork}
+use Rattle.solver_pool.specs.own.PassView.{with_take}
+use Rattle.solver_pool.specs.own.Serve.{Turn, taken_note, IsDone, IsEnded, IsAdvanced, GoesOn}
+use Rattle.solver_pool.specs.own.Worker.{IsHanded, StaysAtWork}
 use Rattle.solver_pool.specs.declared.pass_view.PassView.{PassView}
 use Rattle.solver_pool.specs.declared.pass_view.Note.{Note}
 use Rattle.solver_pool.specs.declared.pass_view.BookEntry.{BookEntry}

@@ -12,9 +12,9 @@ use Rattle.crossbeam_queue.proofs.Lists.{at_set, at_snoc, at_longer, at_last}
 use Rattle.solver_pool.specs.declared.resume.Resume.{Ghosts}
 use Rattle.solver_pool.specs.Resume.{IsMoved}
 use Rattle.solver_pool.specs.Job.{JobView, Differ, key_at, IsNew, note_of, entry_of, Fits}
-use Rattle.solver_pool.specs.PassView.{owner_view, worker_view, ended_view, with_put, with_take, with_entry, with_pass_out, with_pass_in, count_of, live_count, MayPut}
-use Rattle.solver_pool.specs.Rule.{IsWorkerView, IsLawful, RuleHolds}
-use Rattle.solver_pool.specs.Steps.{TookAll, TookPuts, Settles, Takes, Opens}
+use Rattle.solver_pool.specs.own.PassView.{owner_view, worker_view, ended_view, with_put, with_take, with_entry, with_pass_out, with_pass_in, count_of, live_count, MayPut}
+use Rattle.solver_pool.specs.own.Rule.{IsWorkerView, IsLawful, RuleHolds}
+use Rattle.solver_pool.specs.own.Steps.{TookAll, TookPuts, Settles, Takes, Opens}
 use Rattle.solver_pool.specs.declared.pass_view.PassView.{PassView}
 use Rattle.solver_pool.specs.declared.pass_view.Note.{Note}
 use Rattle.solver_pool.specs.declared.pass_view.BookEntry.{BookEntry}
@@ -32,10 +32,6 @@ times_push h ns n e =
 
 times_grow : (h : ℕ) (ns : List Note) (n : Note) → count_of h ns ≤ count_of h (ns ++ n ∷ [])
 times_grow h ns n = omega (arith, sum_by_push (λ (m : Note). one_if (m.key == h)) ns n)
-
-one_if_le : (b : Bool) → one_if b ≤ 1
-one_if_le true = omega arith
-one_if_le false = omega arith
 
 is_over : (b : Bool) → one_if (not b) ≡ 0 → b ≡ true
 is_over true e = refl

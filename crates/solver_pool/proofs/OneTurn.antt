@@ -5,10 +5,10 @@ use lib.ListN.{get_elem?}
 use Rattle.solver_pool.specs.declared.resume.Resume.{Ghosts}
 use Rattle.solver_pool.specs.Resume.{IsMoved}
 use Rattle.solver_pool.specs.Job.{JobView, note_of, Fits}
-use Rattle.solver_pool.specs.PassView.{note, with_put, with_take}
-use Rattle.solver_pool.specs.Steps.{Takes, Puts}
+use Rattle.solver_pool.specs.own.PassView.{note, with_put, with_take}
+use Rattle.solver_pool.specs.own.Steps.{Takes, Puts}
 use Rattle.solver_pool.specs.declared.serve.Served.TheVariants.{Back, Done}
-use Rattle.solver_pool.specs.Serve.{part_of, Turn, taken_note, granted_after, GoesBack, HasServed, IsAdvanced, IsEnded, ServedSays, GoesOn}
+use Rattle.solver_pool.specs.own.Serve.{part_of, Turn, taken_note, granted_after, GoesBack, HasServed, IsAdvanced, IsEnded, ServedSays, GoesOn}
 use Rattle.solver_pool.specs.declared.pass_view.PassView.{PassView}
 use Rattle.solver_pool.specs.declared.pass_view.BookEntry.{BookEntry}
 

@@ -6,7 +6,7 @@ use lib.ListN.{get_elem?, length-map}
 use Rattle.crossbeam_queue.proofs.Lists.{at_longer}
 use Rattle.solver_pool.specs.declared.resume.Resume.{Ghosts}
 use Rattle.solver_pool.specs.Job.{JobView, Differ, key_at, IsNew, key_in, note_of, entry_of}
-use Rattle.solver_pool.specs.PassView.{MayOpen}
+use Rattle.solver_pool.specs.own.PassView.{MayOpen}
 use Rattle.solver_pool.specs.Ring.{IsOpened}
 use Rattle.solver_pool.specs.declared.pass_view.PassView.{PassView}
 use Rattle.solver_pool.specs.declared.pass_view.Note.{Note}

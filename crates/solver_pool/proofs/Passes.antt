@@ -6,8 +6,8 @@ use Rattle.std.proofs.lemmas.List.Elements.{All-nil, All-tail}
 use Rattle.crossbeam_queue.specs.Passes.{view}
 use Rattle.solver_pool.specs.declared.resume.Resume.{Ghosts}
 use Rattle.solver_pool.specs.Job.{JobView}
-use Rattle.solver_pool.specs.PassView.{worker_view, with_pass_out, with_pass_in}
-use Rattle.solver_pool.specs.Worker.{IsBalanced, IsHanded, IsAtWork}
+use Rattle.solver_pool.specs.own.PassView.{worker_view, with_pass_out, with_pass_in}
+use Rattle.solver_pool.specs.own.Worker.{IsBalanced, IsHanded, IsAtWork}
 use Rattle.solver_pool.specs.declared.pass_view.PassView.{PassView}
 use Rattle.solver_pool.specs.declared.pass_view.Note.{Note}
 use Rattle.solver_pool.specs.declared.pass_view.BookEntry.{BookEntry}

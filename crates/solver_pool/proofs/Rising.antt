@@ -9,7 +9,7 @@ use mathlib.Core.Option.{some, some-injective, some-ne-none}
 use lib.ListN.{get_elem?}
 use Rattle.solver_pool.specs.declared.resume.Resume.{Ghosts}
 use Rattle.solver_pool.specs.Job.{JobView, Differ, IsAtTarget, AreRising, key_at, key_in, entry_of, IsListed}
-use Rattle.solver_pool.specs.Rounds.{IsRound, AreServed}
+use Rattle.solver_pool.specs.own.Rounds.{IsRound, AreServed}
 use Rattle.containers.specs.declared.memory.Memory.{Memory}
 use Rattle.solver_pool.specs.declared.pass_view.BookEntry.{BookEntry}
 use Rattle.solver_pool.proofs.Sums.{one_if, no_term, no_sum, sum_by-map}

@@ -6,9 +6,9 @@ use Rattle.crossbeam_queue.specs.Passes.{view}
 use Rattle.solver_pool.proofs.Sums.{sum_by-map}
 use Rattle.solver_pool.specs.declared.resume.Resume.{Ghosts}
 use Rattle.solver_pool.specs.Job.{JobView, note_of, entry_of}
-use Rattle.solver_pool.specs.Steps.{TookAll}
-use Rattle.solver_pool.specs.Worker.{IsHanded, IsAtWork, StaysAtWork, IsWorkerOf, WorksAlone, HasWorkerPass, StartsWorkers, TakesAllIn}
-use Rattle.solver_pool.specs.Rounds.{IsBeginning, AreServed}
+use Rattle.solver_pool.specs.own.Steps.{TookAll}
+use Rattle.solver_pool.specs.own.Worker.{IsHanded, IsAtWork, StaysAtWork, IsWorkerOf, WorksAlone, HasWorkerPass, StartsWorkers, TakesAllIn}
+use Rattle.solver_pool.specs.own.Rounds.{IsBeginning, AreServed}
 use Rattle.solver_pool.specs.declared.ring.Ring.{Ring}
 use Rattle.solver_pool.specs.declared.pass_view.Note.{Note}
 use Rattle.solver_pool.specs.declared.worker.Worker.{Worker}

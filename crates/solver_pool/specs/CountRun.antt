@@ -5,6 +5,7 @@ use Rattle.std.proofs.Math.Nat.{lt_irrefl}
 use Rattle.std.proofs.lemmas.Bool.{false_from_ne_true, ltb-true}
 use Rattle.solver_pool.specs.declared.count_run.CountRun.{CountRun}
 
+-- a counting run that was granted k units more
 abbrev pub count_moved : CountRun → ℕ → CountRun
 count_moved r k = record r { granted = r.granted + k }
 

@@ -17,6 +17,7 @@ pub record JobView (R : Type 0) : Type 0 where
 abbrev pub Differ : {A : Type 0} → (A → ℕ) → List A → Type 0
 Differ {A} key l = (i j : ℕ) (a b : A) → get_elem? l i ≡ some a → get_elem? l j ≡ some b → key a ≡ key b → i ≡ j
 
+-- the key of an entry of the book
 abbrev pub key_at : {R : Type 0} → BookEntry R → ℕ
 key_at e = e.key
 
@@ -25,6 +26,7 @@ abbrev pub IsNew : {R : Type 0} → List (BookEntry R) → ℕ → Type 0
 IsNew {R} book h = (k : ℕ) (e : BookEntry R) → get_elem? book k ≡ some e → ¬ (e.key ≡ h)
 
 module _ {R : Type 0} (g : Ghosts R) where
+  -- the key of a job
   abbrev pub key_in : JobView R → ℕ
   key_in j = g.key_of j.run
 
@@ -48,6 +50,7 @@ module _ {R : Type 0} (g : Ghosts R) where
   abbrev pub entry_of : JobView R → BookEntry R
   entry_of j = record { key = g.key_of j.run; target = j.target; origin = g.origin_of j.run }
 
+  -- an entry of the book is that of a job
   abbrev pub IsEntryOf : JobView R → BookEntry R → Type 0
   IsEntryOf j e = (e.key ≡ g.key_of j.run) × (e.target ≡ j.target) × (e.origin ≡ g.origin_of j.run)
 

@@ -1,12 +1,5 @@
 pub mod Resume
 pub mod Job
-pub mod PassView
-pub mod Rule
-pub mod Steps
 pub mod Ring
-pub mod Serve
-pub mod Left
-pub mod Worker
-pub mod Rounds
 pub mod CountRun
-pub mod Turns
+pub mod own

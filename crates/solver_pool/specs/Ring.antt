@@ -16,9 +16,11 @@ module _ {R : Type 0} (g : Ghosts R) where
   abbrev pub IsRingPass : Ring R → Pass R g → Type 0
   IsRingPass ring p = IsPassOf ring.queue p.pass
 
+  -- the pass is the owner's of this ring
   abbrev pub IsOwnerPass : Ring R → Pass R g → Type 0
   IsOwnerPass ring p = IsRingPass ring p × ((view p.pass).owner ≡ true)
 
+  -- the pass is a worker's of this ring
   abbrev pub IsWorkerPass : Ring R → Pass R g → Type 0
   IsWorkerPass ring p = IsRingPass ring p × ((view p.pass).owner ≡ false)
 

@@ -11,6 +11,12 @@
 //! In between, the jobs stand in a [`Ring`]. A worker that holds a [`Pass`] takes one, advances it by a slice, and
 //! returns it to the ring or keeps it where it is done ([`serve_one`]). Which worker takes which job is left to chance;
 //! what comes back is not.
+//!
+//! `resume` says what a run is; `rule` the rule under which the ring's queue stands, `steps` the steps that put or take a job, `ring` and `open`
+//! the calls of a ring; `serve` one turn; `worker` and `workers` what the workers of a round do; `rounds` the round. A job is moved and never
+//! copied, so no two workers hold one; the rule counts notes of puts and takes, so nothing is lost. After the joins all notes stand in the
+//! owner's pass, no pass is out, and the ring is found empty: so what was taken is what was put, whatever the threads did. `one_turn` has the
+//! two calls of one turn of a worker or a poll: how many units it grants, and how a job that is done is put down or noted as lost.
 #![tactic(auto)]
 
 mod count_run;

@@ -2,8 +2,8 @@
 ghost use Rattle.std.specs.Prelude.{◌≡◌, ◌≤◌, false, IfOk, length};
 ghost use Rattle.crossbeam_queue.specs.Passes.{view};
 ghost use Rattle.solver_pool.specs.Job.{Differ, IsNew, AreSound, key_in};
-ghost use Rattle.solver_pool.specs.PassView.{MayOpen};
-ghost use Rattle.solver_pool.specs.Steps.{Opens};
+ghost use Rattle.solver_pool.specs.own.PassView.{MayOpen};
+ghost use Rattle.solver_pool.specs.own.Steps.{Opens};
 ghost use Rattle.solver_pool.specs.Ring.{IsOwnerPass, IsOpened};
 
 use crate::{Job, Jobs, Memory, Pass, Resume, Ring};

@@ -26,11 +26,12 @@ pub struct Pass<R: Resume> {
 impl<R: Resume> Ring<R> {
     ghost use Rattle.std.specs.Prelude.{◌≡◌, IfOk, OnErr, MatchOption};
     ghost use Rattle.crossbeam_queue.specs.Passes.{view};
-    ghost use Rattle.solver_pool.specs.PassView.{worker_view, with_pass_out, with_pass_in};
-    ghost use Rattle.solver_pool.specs.Steps.{Takes, TookAll};
+    ghost use Rattle.solver_pool.specs.own.PassView.{worker_view, with_pass_out, with_pass_in};
+    ghost use Rattle.solver_pool.specs.own.Steps.{Takes, TookAll};
     ghost use Rattle.solver_pool.specs.Ring.{IsOwnerPass, IsWorkerPass};
 
     /// Gives out a pass for a worker. It has the owner's book and no notes, and the owner counts one pass more.
+    /// `Memory` does not come so far, since a pass takes no room.
     pub fn give<H: Wait>(&self, _rt: &H, owner: &mut Pass<R>) -> Result<Pass<R>, Memory>
         requires owner { IsOwnerPass R.Resume self.now owner.old }
         ensures owner { IsOwnerPass R.Resume self.now owner.new }

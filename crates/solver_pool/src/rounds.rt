@@ -2,7 +2,7 @@
 ghost use Rattle.std.specs.Prelude.{◌≡◌, ◌≤◌, IfOk, length, map};
 ghost use Rattle.solver_pool.specs.Job.{Differ, AreRising, AreSound, key_in, entry_of};
 ghost use Rattle.solver_pool.specs.Ring.{IsSlice};
-ghost use Rattle.solver_pool.specs.Rounds.{IsRound};
+ghost use Rattle.solver_pool.specs.own.Rounds.{IsRound};
 
 use crate::crew::Crew;
 use crate::sorted::give_back;

@@ -6,8 +6,8 @@ use crossbeam_queue::protocol::{Join, Lesson, Outcome, Protocol, Split};
 pub struct RingRule;
 
 impl<R: Resume> Protocol<Job<R>, PassView<R>> for RingRule {
-    ghost use Rattle.solver_pool.specs.PassView.{owner_view};
-    ghost use Rattle.solver_pool.specs.Rule.{RuleHolds};
+    ghost use Rattle.solver_pool.specs.own.PassView.{owner_view};
+    ghost use Rattle.solver_pool.specs.own.Rule.{RuleHolds};
 
     ghost holds = { RuleHolds R.Resume };
 
@@ -18,7 +18,7 @@ impl<R: Resume> Protocol<Job<R>, PassView<R>> for RingRule {
 pub(crate) struct Opening;
 
 impl<R: Resume> Outcome<Job<R>, PassView<R>> for Opening {
-    ghost use Rattle.solver_pool.specs.Steps.{Opens};
+    ghost use Rattle.solver_pool.specs.own.Steps.{Opens};
 
     ghost then = { Opens R.Resume };
 }
@@ -33,7 +33,7 @@ impl<R: Resume> Lesson<Job<R>, PassView<R>> for Opening {
 pub(crate) struct Return;
 
 impl<R: Resume> Outcome<Job<R>, PassView<R>> for Return {
-    ghost use Rattle.solver_pool.specs.Steps.{Puts};
+    ghost use Rattle.solver_pool.specs.own.Steps.{Puts};
 
     ghost then = { Puts R.Resume };
 }
@@ -48,13 +48,13 @@ impl<R: Resume> Lesson<Job<R>, PassView<R>> for Return {
 pub(crate) struct Take;
 
 impl<R: Resume> Outcome<Job<R>, PassView<R>> for Take {
-    ghost use Rattle.solver_pool.specs.Steps.{Takes};
+    ghost use Rattle.solver_pool.specs.own.Steps.{Takes};
 
     ghost then = { Takes R.Resume };
 }
 
 impl<R: Resume> Lesson<Job<R>, PassView<R>> for Take {
-    ghost use Rattle.solver_pool.specs.Steps.{Settles};
+    ghost use Rattle.solver_pool.specs.own.Steps.{Settles};
 
     ghost fact = { Settles R.Resume };
 }
@@ -63,7 +63,7 @@ impl<R: Resume> Lesson<Job<R>, PassView<R>> for Take {
 pub(crate) struct GiveOut;
 
 impl<R> Split<PassView<R>> for GiveOut {
-    ghost use Rattle.solver_pool.specs.PassView.{with_pass_out, worker_view};
+    ghost use Rattle.solver_pool.specs.own.PassView.{with_pass_out, worker_view};
 
     ghost left = { with_pass_out };
 
@@ -74,7 +74,7 @@ impl<R> Split<PassView<R>> for GiveOut {
 pub(crate) struct TakeIn;
 
 impl<R> Join<PassView<R>> for TakeIn {
-    ghost use Rattle.solver_pool.specs.PassView.{with_pass_in, ended_view};
+    ghost use Rattle.solver_pool.specs.own.PassView.{with_pass_in, ended_view};
 
     ghost both = { with_pass_in };
 

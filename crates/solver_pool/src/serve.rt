@@ -3,8 +3,8 @@ ghost use Rattle.std.specs.Prelude.{◌≡◌, ◌≤◌, true, false, ◌↔◌
 ghost use Rattle.crossbeam_queue.specs.Passes.{view};
 ghost use Rattle.solver_pool.specs.Resume.{IsMoved, SettledStays};
 ghost use Rattle.solver_pool.specs.Ring.{IsRingPass, IsSlice};
-ghost use Rattle.solver_pool.specs.Serve.{ServedSays, GoesOn, IsAdvanced, IsEnded};
-ghost use Rattle.solver_pool.specs.Left.{FallsOrIdle};
+ghost use Rattle.solver_pool.specs.own.Serve.{ServedSays, GoesOn, IsAdvanced, IsEnded};
+ghost use Rattle.solver_pool.specs.own.Left.{FallsOrIdle};
 
 use crate::one_turn::units_of_turn;
 use crate::{Gate, Job, Pass, Resume, Ring};

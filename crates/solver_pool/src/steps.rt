@@ -4,8 +4,8 @@ ghost use Rattle.std.specs.Prelude.{◌≡◌, ◌≤◌, false, IfOk, MatchOpti
 ghost use Rattle.crossbeam_queue.specs.Passes.{view};
 ghost use Rattle.solver_pool.specs.Resume.{IsMoved};
 ghost use Rattle.solver_pool.specs.Job.{Fits, IsNew};
-ghost use Rattle.solver_pool.specs.PassView.{owner_view, MayOpen, MayPut};
-ghost use Rattle.solver_pool.specs.Steps.{Opens, Puts, Takes, TookAll};
+ghost use Rattle.solver_pool.specs.own.PassView.{owner_view, MayOpen, MayPut};
+ghost use Rattle.solver_pool.specs.own.Steps.{Opens, Puts, Takes, TookAll};
 ghost use Rattle.solver_pool.specs.Ring.{IsRingPass};
 
 use crate::rule::{Opening, Return, Take};

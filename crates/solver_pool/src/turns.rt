@@ -1,6 +1,6 @@
 // What there is to do in a round.
 ghost use Rattle.std.specs.Prelude.{◌≡◌, ◌-◌, ◌^◌, min, nat_lt};
-ghost use Rattle.solver_pool.specs.Turns.{turns_in, below_target, passes_for};
+ghost use Rattle.solver_pool.specs.own.Turns.{turns_in, below_target, passes_for};
 
 use crate::{Job, Resume};
 

@@ -1,10 +1,10 @@
 // One worker of a round.
 ghost use Rattle.std.specs.Prelude.{◌≡◌, false, IsTrue};
 ghost use Rattle.crossbeam_queue.specs.Passes.{view};
-ghost use Rattle.solver_pool.specs.Steps.{TookAll};
+ghost use Rattle.solver_pool.specs.own.Steps.{TookAll};
 ghost use Rattle.solver_pool.specs.Ring.{IsRingPass, IsSlice};
-ghost use Rattle.solver_pool.specs.Serve.{IsEnded};
-ghost use Rattle.solver_pool.specs.Worker.{StaysAtWork, WorksAlone, WorkFalls};
+ghost use Rattle.solver_pool.specs.own.Serve.{IsEnded};
+ghost use Rattle.solver_pool.specs.own.Worker.{StaysAtWork, WorksAlone, WorkFalls};
 
 use crate::crew::Crew;
 use crate::one_turn::put_or_note;

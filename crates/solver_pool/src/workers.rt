@@ -3,7 +3,7 @@ ghost use Rattle.std.specs.Prelude.{◌≡◌, ℕ, ◌<◌, true, IfOk, length,
 ghost use Rattle.std.specs.List.{All};
 ghost use Rattle.crossbeam_queue.specs.Passes.{view};
 ghost use Rattle.solver_pool.specs.Ring.{IsRingPass, IsSlice};
-ghost use Rattle.solver_pool.specs.Worker.{StaysAtWork, IsWorkerOf, HasWorkerPass, StartsWorkers, TakesIn, TakesAllIn};
+ghost use Rattle.solver_pool.specs.own.Worker.{StaysAtWork, IsWorkerOf, HasWorkerPass, StartsWorkers, TakesIn, TakesAllIn};
 ghost use denote.Param.Send.{IsSync};
 
 use crate::crew::Crew;

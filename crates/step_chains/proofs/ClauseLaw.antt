@@ -1,10 +1,10 @@
 use Rattle.std.proofs.Common.{◌≡◌, ◌+◌, ◌≤◌, ◌<◌, ℕ, List, [], ◌∷◌, ◌++◌, length, false, sym, ap, ◌∙◌, drop, get_or}
 use Rattle.std.proofs.lemmas.List.{drop_more, drop_all, append-nil}
 use Rattle.gt_core.specs.Task.{Task}
-use Rattle.horizon_formula.specs.Coded.{coded}
-use Rattle.horizon_formula.specs.Formula.{chain_clauses}
-use Rattle.horizon_formula.specs.Variables.{chains, chains_from}
-use Rattle.step_chains.specs.Links.{enter_links, pass_links}
+use Rattle.formula_defs.specs.Coded.{coded}
+use Rattle.formula_defs.specs.Formula.{chain_clauses}
+use Rattle.formula_defs.specs.Variables.{chains, chains_from}
+use Rattle.step_chains.specs.own.Links.{enter_links, pass_links}
 use Rattle.step_chains.specs.Chains.{LinkedChain, LinkedChains, all_clauses, AreChains}
 use Rattle.step_chains.proofs.WalkLaw.{append_coded}
 

@@ -4,14 +4,14 @@ use Rattle.std.proofs.lemmas.List.{drop_more, drop_all, take_more, append-nil, g
 use Rattle.std.proofs.lemmas.Bool.Decides.{nat_tests}
 use Rattle.gt_core.specs.Literal.{opposite}
 use Rattle.gt_core.specs.Task.{Task}
-use Rattle.gt_core.proofs.Literals.{opposite_twice}
+use Rattle.gt_core.proofs.published.Literals.{opposite_twice}
 use Rattle.gt_core.specs.Interference.{takes, reads}
 use Rattle.gt_core.specs.Published.{Pairwise}
 use Rattle.bit_sets.specs.Rows.{row_has}
-use Rattle.gt_core.proofs.Basics.{apart, same_test, test_same, same_if, or_none}
+use Rattle.gt_core.proofs.published.Basics.{apart, same_test, test_same, same_if, or_none}
 use Rattle.step_chains.specs.declared.link.Link.{Link}
-use Rattle.step_chains.specs.Touching.{link_of, links_of, touches}
-use Rattle.step_chains.specs.Index.{entry, IsAway, IsNew, HasEntries, Marks, IsIndexOf, AreTouched, HasNoOther}
+use Rattle.step_chains.specs.own.Touching.{link_of, links_of, touches}
+use Rattle.step_chains.specs.own.Index.{entry, IsAway, IsNew, HasEntries, Marks, IsIndexOf, AreTouched, HasNoOther}
 use Rattle.std.proofs.Math.Bool.{or-false}
 
 -- An index of links as it grows: by one mark, by the marks of one action, by one action after the other.

@@ -2,11 +2,11 @@ use Rattle.std.proofs.Common.{arith, ◌≡◌, ◌+◌, ◌≤◌, ℕ, zero, s
 use Rattle.std.specs.List.{list_any}
 use Rattle.gt_core.specs.Interference.{takes, reads}
 use Rattle.gt_core.specs.Task.{Task}
-use Rattle.horizon_formula.specs.Clause.{Literal, Is, Not}
-use Rattle.horizon_formula.specs.Chain.{chain_length, if_read, enter_clauses, pass_clauses}
+use Rattle.formula_defs.specs.Clause.{Literal, Is, Not}
+use Rattle.formula_defs.specs.Chain.{chain_length, if_read, enter_clauses, pass_clauses}
 use Rattle.step_chains.specs.declared.link.Link.{Link}
-use Rattle.step_chains.specs.Touching.{links_of}
-use Rattle.step_chains.specs.Links.{link_count, enter_links, pass_links}
+use Rattle.step_chains.specs.own.Touching.{links_of}
+use Rattle.step_chains.specs.own.Links.{link_count, enter_links, pass_links}
 
 -- A chain over the members that touch its literal is the chain over all members.
 

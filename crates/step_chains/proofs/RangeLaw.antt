@@ -3,7 +3,7 @@ use Rattle.std.specs.List.{AllByRecursion}
 use Rattle.gt_core.specs.Literal.{opposite}
 use Rattle.gt_core.specs.Task.{Effect}
 use Rattle.gt_core.specs.Active.{EffectWithin}
-use Rattle.gt_core.proofs.Literals.{half_opposite}
+use Rattle.gt_core.proofs.published.Literals.{half_opposite}
 
 -- The literals of a lawful action are below an index's length.
 

@@ -3,13 +3,13 @@ use Rattle.std.specs.List.{AllByRecursion}
 use Rattle.std.specs.Prelude.{sum_by}
 use Rattle.std.proofs.lemmas.List.{drop_more, drop_all}
 use Rattle.std.proofs.lemmas.List.Sums.{sum_by-cons}
-use Rattle.horizon_formula.specs.Layout.{Layout, action_at, chain_at}
-use Rattle.horizon_formula.specs.Clause.{Literal, Is, Not, code}
-use Rattle.horizon_formula.specs.Coded.{coded, literals_in}
-use Rattle.horizon_formula.proofs.SizeLaw.{size_append}
-use Rattle.horizon_formula.proofs.ClauseSize.{two_size}
+use Rattle.formula_defs.specs.Layout.{Layout, action_at, chain_at}
+use Rattle.formula_defs.specs.Clause.{Literal, Is, Not, code}
+use Rattle.formula_defs.specs.Coded.{coded, literals_in}
+use Rattle.formula_defs.proofs.published.SizeLaw.{size_append}
+use Rattle.formula_defs.proofs.published.ClauseSize.{two_size}
 use Rattle.step_chains.specs.declared.link.Link.{Link}
-use Rattle.step_chains.specs.Links.{is_read, link_size, enter_links, pass_links}
+use Rattle.step_chains.specs.own.Links.{is_read, link_size, enter_links, pass_links}
 use Rattle.step_chains.specs.Chains.{LinkedChain, LinkedChains, linked_clauses, all_clauses, links_in, IsChainWithin, AreWithin}
 
 -- How many literals the clauses of chains have: two a clause.

@@ -3,13 +3,13 @@ use Rattle.std.specs.List.{list_any}
 use Rattle.std.proofs.lemmas.List.{drop_more, append_assoc}
 use Rattle.std.proofs.lemmas.List.Sums.{sum_by-cons}
 use Rattle.std.proofs.lemmas.Bool.Decides.{nat_tests}
-use Rattle.horizon_formula.specs.Clause.{Literal, Is, Not}
-use Rattle.horizon_formula.specs.Coded.{coded}
-use Rattle.horizon_formula.proofs.CodedLaw.{coded-append}
+use Rattle.formula_defs.specs.Clause.{Literal, Is, Not}
+use Rattle.formula_defs.specs.Coded.{coded}
+use Rattle.formula_defs.proofs.published.CodedLaw.{coded-append}
 use Rattle.step_chains.specs.declared.link.Link.{Link}
 use Rattle.step_chains.specs.declared.walk.Walk.{Walk}
-use Rattle.step_chains.specs.Links.{link_count, enter_links, pass_links, is_read, link_size}
-use Rattle.step_chains.specs.Walk.{StandsBefore, IsAfter}
+use Rattle.step_chains.specs.own.Links.{link_count, enter_links, pass_links, is_read, link_size}
+use Rattle.step_chains.specs.own.Walk.{StandsBefore, IsAfter}
 use Rattle.step_chains.proofs.LinkLaw.{left_counts}
 
 -- A walk along the links of a chain: what is seen, the next variable, and how many readers are left.

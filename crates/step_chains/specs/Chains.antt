@@ -2,11 +2,11 @@
 use Rattle.std.specs.Prelude.{◌≡◌, ℕ, ◌+◌, ◌<◌, ◌≤◌, List, [], ◌++◌, false, length, sum_by}
 use Rattle.std.specs.List.{flat_map, AllByRecursion}
 use Rattle.gt_core.specs.Task.{Task}
-use Rattle.horizon_formula.specs.Clause.{Literal}
-use Rattle.horizon_formula.specs.Variables.{chains_from, chain_variables_in}
-use Rattle.horizon_formula.specs.Formula.{chain_clauses}
+use Rattle.formula_defs.specs.Clause.{Literal}
+use Rattle.formula_defs.specs.Variables.{chains_from, chain_variables_in}
+use Rattle.formula_defs.specs.Formula.{chain_clauses}
 use Rattle.step_chains.specs.declared.link.Link.{Link}
-use Rattle.step_chains.specs.Links.{link_count, enter_links, pass_links}
+use Rattle.step_chains.specs.own.Links.{link_count, enter_links, pass_links}
 
 -- a chain: the number of its first variable, and its members
 pub record LinkedChain : Type 0 where
@@ -60,6 +60,7 @@ pub record Extends (task : Task) (places : List (List ℕ × ℕ)) (old new : Li
   pub actions : new.actions ≡ old.actions
   pub few : links_in new.chains ≤ links_in old.chains + members_in places
 
+-- no chain yet, of a task with so many actions
 abbrev pub no_chains : ℕ → LinkedChains
 no_chains actions = record { actions = actions; chains = []; variables = 0 }
 

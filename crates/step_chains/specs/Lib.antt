@@ -1,6 +1,3 @@
-pub mod Links
-pub mod Walk
 pub mod Chains
 pub mod BothWays
-pub mod Touching
-pub mod Index
+pub mod own

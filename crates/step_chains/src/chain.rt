@@ -1,6 +1,6 @@
 //! One chain.
 ghost use Rattle.std.specs.Prelude.{◌≡◌, ◌+◌, ◌*◌, ◌≤◌, ◌&&◌, ◌||◌, Bool, true, false, length, count_by, if◌then◌else◌};
-ghost use Rattle.step_chains.specs.Links.{link_count, link_size, is_read};
+ghost use Rattle.step_chains.specs.own.Links.{link_count, link_size, is_read};
 
 use crate::link::Link;
 use std::marker::Model;

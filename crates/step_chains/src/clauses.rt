@@ -2,15 +2,15 @@
 ghost use Rattle.std.specs.Prelude.{◌≡◌, ◌+◌, ◌≤◌, ◌<◌, ◌++◌, ℕ, List, [], ◌∷◌, true, false, if◌then◌else◌, OnOk};
 ghost use Rattle.clause_base.specs.Clause.{clause_of};
 ghost use Rattle.std.specs.List.{cons_option};
-ghost use Rattle.horizon_formula.specs.Formula.{chain_clauses};
+ghost use Rattle.formula_defs.specs.Formula.{chain_clauses};
 ghost use Rattle.step_chains.specs.Chains.{AreChains, all_clauses};
 ghost use Rattle.gt_core.specs.Task.{Task};
-ghost use Rattle.horizon_formula.specs.Layout.{action_at, chain_at};
-ghost use Rattle.horizon_formula.specs.Clause.{Is, Not, code};
-ghost use Rattle.step_chains.specs.Walk.{HasChain};
-ghost use Rattle.step_chains.specs.Links.{enter_links, pass_links, enter_of, pass_of};
-ghost use Rattle.horizon_formula.specs.Coded.{Appends};
-ghost use Rattle.horizon_formula.specs.Variables.{chains};
+ghost use Rattle.formula_defs.specs.Layout.{action_at, chain_at};
+ghost use Rattle.formula_defs.specs.Clause.{Is, Not, code};
+ghost use Rattle.step_chains.specs.own.Walk.{HasChain};
+ghost use Rattle.step_chains.specs.own.Links.{enter_links, pass_links, enter_of, pass_of};
+ghost use Rattle.formula_defs.specs.Coded.{Appends};
+ghost use Rattle.formula_defs.specs.Variables.{chains};
 
 use crate::chain::Chain;
 use crate::chains::Chains;
@@ -18,8 +18,8 @@ use crate::link::Link;
 use crate::walk::Walk;
 use clause_base::clause_list::ClauseList;
 use clause_base::literal::Lit;
-use clause_base::memory::Memory;
-use horizon_formula::layout::Layout;
+use containers::memory::Memory;
+use formula_defs::layout::Layout;
 
 /// Appends the clause of two literals, unless they are opposite.
 fn add_pair(clauses: &mut ClauseList, one: Lit, other: Lit) -> Result<(), Memory>

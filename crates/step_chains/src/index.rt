@@ -7,13 +7,13 @@ ghost use Rattle.gt_core.specs.Lawful.{is_task};
 ghost use Rattle.gt_core.specs.Interference.{takes, reads};
 ghost use Rattle.gt_core.specs.Active.{EffectWithin};
 ghost use Rattle.gt_core.specs.Published.{Pairwise};
-ghost use Rattle.step_chains.specs.Index.{Marks, AreTouched, HasNoOther};
+ghost use Rattle.step_chains.specs.own.Index.{Marks, AreTouched, HasNoOther};
 
 use crate::link::{Link, Links, mark};
 use bit_sets::row::BitRow;
-use clause_base::memory::Memory;
 use containers::equal::items_of;
 use containers::let_go;
+use containers::memory::Memory;
 use gt_core::eff::Eff;
 use gt_core::lits::opposite;
 use gt_core::task::Task;
@@ -36,7 +36,7 @@ impl Drop for LinkIndex {
 impl Model for LinkIndex {
     ghost use Rattle.std.specs.Prelude.{List};
     ghost use Rattle.step_chains.specs.declared.link.Link.{Link};
-    ghost use Rattle.step_chains.specs.Index.{AreTouched, HasNoOther};
+    ghost use Rattle.step_chains.specs.own.Index.{AreTouched, HasNoOther};
 
     ghost Value = { List (List Link) };
 
@@ -128,7 +128,7 @@ fn mark_in(lists: &mut Vec<Links>, touched: &mut BitRow, lit: u32, link: Link) -
 }
 
 impl LinkIndex {
-    ghost use Rattle.step_chains.specs.Index.{IsIndexOf};
+    ghost use Rattle.step_chains.specs.own.Index.{IsIndexOf};
 
     /// An index of no action, over so many facts.
     pub fn new(alloc: Global, facts: u32) -> Result<LinkIndex, Memory>

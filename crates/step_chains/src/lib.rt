@@ -7,6 +7,8 @@
 //!
 //! `index` lists for each fact literal the actions that take or read it, in their order; it looks at the literals that the
 //! actions have, and at no others.
+//!
+//! `index` keeps a row of bits of the literals that are touched, and looks at no other ones.
 #![tactic(auto)]
 
 mod chain;

@@ -1,10 +1,10 @@
 //! The actions that touch one fact literal.
 ghost use Rattle.std.specs.Prelude.{◌≡◌, ◌≢◌, [], ◌||◌, true, ◌++◌, List, Bool, OnOk};
 ghost use Rattle.step_chains.specs.declared.link.Link.{Link as LinkValue};
-ghost use Rattle.step_chains.specs.Index.{entry, IsAway};
+ghost use Rattle.step_chains.specs.own.Index.{entry, IsAway};
 
-use clause_base::memory::Memory;
 use containers::ListOf;
+use containers::memory::Memory;
 
 /// An action beside a fact literal: whether it may take the literal away, and whether it reads it.
 #[derive(Clone, Copy)]

@@ -14,7 +14,7 @@ pub(crate) struct Walk {
 
 impl Walk {
     ghost use Rattle.std.specs.Prelude.{◌≡◌, ◌≤◌, true, false, count_by};
-    ghost use Rattle.step_chains.specs.Walk.{IsAfter};
+    ghost use Rattle.step_chains.specs.own.Walk.{IsAfter};
 
     /// Before the first link.
     pub(crate) fn of(chain: &Chain) -> Walk

@@ -2,17 +2,17 @@ use Rattle.std.proofs.Common.{arith, ◌≡◌, ℕ, zero, suc, ◌<◌, ◌+◌
 use Rattle.gt_core.specs.Literal.{range}
 use Rattle.gt_core.specs.Task.{Task}
 use Rattle.gt_core.specs.Lawful.{conditional_in}
-use Rattle.action_order.proofs.Lists.{range_more}
-use Rattle.horizon_formula.specs.Variables.{chain_variables_in}
-use Rattle.horizon_formula.specs.Coded.{literals_in, formula_of}
-use Rattle.horizon_formula.specs.Shift.{one_step, one_time}
-use Rattle.horizon_formula.proofs.InRange.{IsInRange}
-use Rattle.horizon_formula.proofs.SizeLaw.{size_law}
+use Rattle.action_order.proofs.published.Lists.{range_more}
+use Rattle.formula_defs.specs.Variables.{chain_variables_in}
+use Rattle.formula_defs.specs.Coded.{literals_in, formula_of}
+use Rattle.formula_defs.specs.Shift.{one_step, one_time}
+use Rattle.formula_defs.proofs.published.InRange.{IsInRange}
+use Rattle.formula_defs.proofs.published.SizeLaw.{size_law}
 use Rattle.step_laws.specs.Form.{OrderedTask, IsOrderedTask}
 use Rattle.step_chains.specs.Chains.{LinkedChains, AreChains}
 use Rattle.step_encoding.specs.Limits.{most_literals}
 use Rattle.step_encoding.specs.Numbers.{literals_of}
-use Rattle.step_encoding.specs.Kept.{AreKept}
+use Rattle.step_encoding.specs.own.Kept.{AreKept}
 use Rattle.step_encoding.proofs.Whole.{layout_fits}
 
 -- What a form keeps is what its layouts and formulas have.

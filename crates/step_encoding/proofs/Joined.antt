@@ -2,13 +2,13 @@ use Rattle.std.proofs.Common.{arith, ◌≡◌, ℕ, zero, suc, ◌+◌, ◌-◌
 use Rattle.std.specs.List.{flat_map, range_with_len, AllByRecursion}
 use Rattle.std.proofs.lemmas.List.Elements.{All-nil, All-cons}
 use Rattle.gt_core.specs.Literal.{range, range_from}
-use Rattle.horizon_formula.specs.Layout.{Layout, width, variables}
+use Rattle.formula_defs.specs.Layout.{Layout, width, variables}
 use Rattle.clause_base.specs.Clause.{HasVariablesBelow}
 use Rattle.clause_base.specs.Formula.{Cnf}
 use Rattle.clause_base.specs.Repeats.{Repeats, IsRepeatable, moved_code, repeated}
-use Rattle.clause_base.proofs.Moved.{where_is, moved_above}
-use Rattle.clause_base.proofs.RepeatLemmas.{length_repeated}
-use Rattle.step_encoding.specs.Parts.{added, step_part, time_part, StepsFit, TimesFit}
+use Rattle.clause_base.proofs.published.Moved.{where_is, moved_above}
+use Rattle.clause_base.proofs.published.RepeatLemmas.{length_repeated}
+use Rattle.step_encoding.specs.own.Parts.{added, step_part, time_part, StepsFit, TimesFit}
 
 -- The repeated part of a layout's formula.
 

@@ -3,20 +3,20 @@ use Rattle.std.specs.List.{flat_map}
 use Rattle.std.proofs.Math.Nat.{mul-le-mul_left}
 use Rattle.gt_core.specs.Literal.{range}
 use Rattle.gt_core.specs.Task.{Task}
-use Rattle.horizon_formula.specs.Layout.{Layout, width, variables, fact_at}
-use Rattle.gt_core.proofs.Basics.{Among}
-use Rattle.gt_core.proofs.Literals.{below_range}
+use Rattle.formula_defs.specs.Layout.{Layout, width, variables, fact_at}
+use Rattle.gt_core.proofs.published.Basics.{Among}
+use Rattle.gt_core.proofs.published.Literals.{below_range}
 use Rattle.clause_base.specs.Formula.{Cnf}
-use Rattle.horizon_formula.specs.Clause.{code}
-use Rattle.horizon_formula.specs.Variables.{layout_of}
-use Rattle.horizon_formula.specs.Formula.{literal_over, initial_clauses, goal_clauses, step_clauses, pair_clauses}
-use Rattle.horizon_formula.specs.Coded.{coded, literals_in, formula_of}
-use Rattle.horizon_formula.specs.Shift.{one_step, one_time}
-use Rattle.horizon_formula.proofs.InRange.{IsInRange}
-use Rattle.horizon_formula.proofs.SizeLaw.{size_law}
-use Rattle.horizon_formula.proofs.FewLaw.{step_few, time_few}
+use Rattle.formula_defs.specs.Clause.{code}
+use Rattle.formula_defs.specs.Variables.{layout_of}
+use Rattle.formula_defs.specs.Formula.{literal_over, initial_clauses, goal_clauses, step_clauses, pair_clauses}
+use Rattle.formula_defs.specs.Coded.{coded, literals_in, formula_of}
+use Rattle.formula_defs.specs.Shift.{one_step, one_time}
+use Rattle.formula_defs.proofs.published.InRange.{IsInRange}
+use Rattle.formula_defs.proofs.published.SizeLaw.{size_law}
+use Rattle.formula_defs.proofs.published.FewLaw.{step_few, time_few}
 use Rattle.step_encoding.specs.Limits.{most_literals}
-use Rattle.step_encoding.specs.Parts.{step_part, time_part, StepsFit, TimesFit}
+use Rattle.step_encoding.specs.own.Parts.{step_part, time_part, StepsFit, TimesFit}
 use Rattle.step_encoding.proofs.Parts.{goal_parts}
 use Rattle.step_encoding.proofs.Whole.{whole_parts, step_added, step_fits, time_added, time_fits}
 

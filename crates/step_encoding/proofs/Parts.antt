@@ -3,18 +3,18 @@ use Rattle.std.specs.List.{flat_map}
 use Rattle.std.proofs.lemmas.List.{length-append}
 use Rattle.gt_core.specs.Literal.{range, range_from}
 use Rattle.gt_core.specs.Task.{Task, initial_state}
-use Rattle.horizon_formula.specs.Layout.{Layout, fact_at, variables}
+use Rattle.formula_defs.specs.Layout.{Layout, fact_at, variables}
 use Rattle.std.specs.Prelude.{slice_index_or}
 use Rattle.gt_core.specs.Lawful.{is_task}
-use Rattle.gt_core.proofs.Basics.{each_at}
-use Rattle.gt_core.proofs.Within.{literals_within, lawful, among_at}
+use Rattle.gt_core.proofs.published.Basics.{each_at}
+use Rattle.gt_core.proofs.published.Within.{literals_within, lawful, among_at}
 use Rattle.clause_base.specs.Formula.{Cnf}
-use Rattle.horizon_formula.specs.Clause.{Is, Not, code}
-use Rattle.horizon_formula.specs.Formula.{literal_over, initial_clauses, goal_clauses}
-use Rattle.horizon_formula.specs.Coded.{coded}
-use Rattle.horizon_formula.proofs.CodedLaw.{coded-append}
-use Rattle.horizon_formula.proofs.SizeLaw.{singles}
-use Rattle.step_encoding.specs.Parts.{added}
+use Rattle.formula_defs.specs.Clause.{Is, Not, code}
+use Rattle.formula_defs.specs.Formula.{literal_over, initial_clauses, goal_clauses}
+use Rattle.formula_defs.specs.Coded.{coded}
+use Rattle.formula_defs.proofs.published.CodedLaw.{coded-append}
+use Rattle.formula_defs.proofs.published.SizeLaw.{singles}
+use Rattle.step_encoding.specs.own.Parts.{added}
 use Rattle.std.proofs.lemmas.List.{append-nil}
 
 -- Formulas to which clauses are added, and the clauses of the first and the last time.

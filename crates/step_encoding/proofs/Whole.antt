@@ -5,25 +5,25 @@ use Rattle.std.proofs.Math.Nat.{mul-le-mul_left, mul_comm}
 use Rattle.gt_core.specs.Literal.{range}
 use Rattle.gt_core.specs.Task.{Task}
 use Rattle.gt_core.specs.Lawful.{conditional_in, is_task}
-use Rattle.horizon_formula.specs.Layout.{Layout, width, variables}
+use Rattle.formula_defs.specs.Layout.{Layout, width, variables}
 use Rattle.gt_core.specs.Published.{Pairwise, order_of}
-use Rattle.gt_core.proofs.PublishedLaw.{published_apart, component_apart}
-use Rattle.gt_core.proofs.Basics.{each_from}
-use Rattle.gt_core.proofs.Within.{lawful}
+use Rattle.gt_core.proofs.published.PublishedLaw.{published_apart, component_apart}
+use Rattle.gt_core.proofs.published.Basics.{each_from}
+use Rattle.gt_core.proofs.published.Within.{lawful}
 use Rattle.clause_base.specs.Clause.{HasVariablesBelow}
-use Rattle.horizon_formula.specs.Clause.{Literal}
-use Rattle.horizon_formula.specs.Variables.{layout_of, chain_variables_in}
-use Rattle.horizon_formula.specs.Formula.{step_clauses, pair_clauses, initial_clauses, goal_clauses}
-use Rattle.horizon_formula.specs.Coded.{coded, literals_in, formula_of}
-use Rattle.horizon_formula.specs.Shift.{moved_code, one_step, one_time}
-use Rattle.horizon_formula.proofs.CodedLaw.{coded-append}
-use Rattle.horizon_formula.proofs.InRange.{IsInRange}
-use Rattle.horizon_formula.proofs.ShiftLaw.{step_moved, known_moved}
-use Rattle.horizon_formula.proofs.SizeLaw.{size_law, chains_within_size}
-use Rattle.horizon_formula.proofs.Within.{step_within, known_within}
+use Rattle.formula_defs.specs.Clause.{Literal}
+use Rattle.formula_defs.specs.Variables.{layout_of, chain_variables_in}
+use Rattle.formula_defs.specs.Formula.{step_clauses, pair_clauses, initial_clauses, goal_clauses}
+use Rattle.formula_defs.specs.Coded.{coded, literals_in, formula_of}
+use Rattle.formula_defs.specs.Shift.{moved_code, one_step, one_time}
+use Rattle.formula_defs.proofs.published.CodedLaw.{coded-append}
+use Rattle.formula_defs.proofs.published.InRange.{IsInRange}
+use Rattle.formula_defs.proofs.published.ShiftLaw.{step_moved, known_moved}
+use Rattle.formula_defs.proofs.published.SizeLaw.{size_law, chains_within_size}
+use Rattle.formula_defs.proofs.published.Within.{step_within, known_within}
 use Rattle.step_laws.specs.Form.{OrderedTask, IsOrderedTask}
 use Rattle.step_encoding.specs.Limits.{most_literals}
-use Rattle.step_laws.proofs.Ranges.{member_below}
+use Rattle.step_laws.proofs.published.Ranges.{member_below}
 use Rattle.std.proofs.lemmas.List.Elements.{filter-append}
 
 -- The whole formula from its parts.

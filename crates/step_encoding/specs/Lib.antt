@@ -1,5 +1,4 @@
 pub mod Limits
 pub mod Numbers
-pub mod Kept
-pub mod Parts
 pub mod Laws
+pub mod own

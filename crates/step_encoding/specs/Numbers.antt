@@ -1,9 +1,9 @@
 use Rattle.std.specs.Prelude.{◌≡◌, ℕ, length}
 use Rattle.gt_core.specs.Task.{Task}
 use Rattle.gt_core.specs.Lawful.{conditional_in}
-use Rattle.horizon_formula.specs.Layout.{Layout, variables}
+use Rattle.formula_defs.specs.Layout.{Layout, variables}
 use Rattle.clause_base.specs.Formula.{Cnf}
-use Rattle.horizon_formula.specs.Coded.{literals_in}
+use Rattle.formula_defs.specs.Coded.{literals_in}
 
 -- how many literals a formula has
 abbrev pub literals_of : Cnf → ℕ

@@ -2,18 +2,18 @@
 
 ghost use Rattle.std.specs.Prelude.{◌≡◌, ◌+◌, ◌/◌, ◌≤◌, ◌<◌, [], ◌∷◌, map, length, if◌then◌else◌, OnOk};
 ghost use Rattle.gt_core.specs.Task.{initial_state};
-ghost use Rattle.horizon_formula.specs.Layout.{fact_at, variables};
-ghost use Rattle.horizon_formula.specs.Clause.{Is, Not, code};
-ghost use Rattle.horizon_formula.specs.Formula.{literal_over, initial_clauses};
-ghost use Rattle.horizon_formula.specs.Coded.{coded};
-ghost use Rattle.step_encoding.specs.Parts.{added, HasClauseRoom};
+ghost use Rattle.formula_defs.specs.Layout.{fact_at, variables};
+ghost use Rattle.formula_defs.specs.Clause.{Is, Not, code};
+ghost use Rattle.formula_defs.specs.Formula.{literal_over, initial_clauses};
+ghost use Rattle.formula_defs.specs.Coded.{coded};
+ghost use Rattle.step_encoding.specs.own.Parts.{added, HasClauseRoom};
 
 use clause_base::formula::Formula;
 use clause_base::literal::Lit;
-use clause_base::memory::Memory;
+use containers::memory::Memory;
+use formula_defs::layout::Layout;
 use gt_core::task::Task;
-use horizon_formula::layout::Layout;
-use step_template::literals::fact_lit;
+use step_formula::literals::fact_lit;
 
 /// Adds the clause of one literal.
 fn add_single(formula: &mut Formula, lit: Lit) -> Result<(), Memory>

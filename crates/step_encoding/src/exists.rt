@@ -1,12 +1,12 @@
 //! The encoding of exists-steps.
 
 ghost use Rattle.gt_core.specs.Step.{IsStepPlan};
-ghost use Rattle.horizon_formula.specs.Variables.{chain_places};
+ghost use Rattle.formula_defs.specs.Variables.{chain_places};
 ghost use Rattle.step_encoding.specs.Laws.{by_components};
 
 use crate::placed::{Placed, Placing};
 use action_order::order::Order;
-use clause_base::memory::Memory;
+use containers::memory::Memory;
 use gt_core::task::Task;
 use std::alloc::Global;
 use step_chains::Chains;

@@ -3,14 +3,14 @@
 ghost use Rattle.std.specs.Prelude.{◌≡◌, ℕ, ◌≤◌, ◌<◌, List, Bool, length, IfOk, IsOk};
 ghost use Rattle.std.specs.List.{AllByRecursion};
 ghost use Rattle.gt_core.specs.Task.{Task};
-ghost use Rattle.horizon_formula.specs.Layout.{Layout as LayoutNumbers};
+ghost use Rattle.formula_defs.specs.Layout.{Layout as LayoutNumbers};
 ghost use Rattle.clause_base.specs.Formula.{Cnf, IsModel, IsUnsatisfiable};
 ghost use Rattle.step_encoding.specs.{Limits.most_literals, Numbers.HasNumbersOf, Numbers.literals_of};
 
 use crate::steps::Steps;
 use clause_base::formula::Formula;
-use clause_base::memory::Memory;
-use horizon_formula::layout::Layout;
+use containers::memory::Memory;
+use formula_defs::layout::Layout;
 use std::alloc::Global;
 
 /// Why there is no formula.

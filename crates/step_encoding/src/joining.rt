@@ -3,21 +3,21 @@
 ghost use Rattle.std.specs.Prelude.{◌≡◌, ◌+◌, ◌*◌, ◌≤◌, [], ◌∷◌, ◌++◌, map, length, if◌then◌else◌, OnOk, IfOk};
 ghost use Rattle.std.specs.List.{flat_map};
 ghost use Rattle.gt_core.specs.Literal.{range};
-ghost use Rattle.horizon_formula.specs.Layout.{fact_at, variables};
-ghost use Rattle.horizon_formula.specs.Clause.{code};
-ghost use Rattle.horizon_formula.specs.Formula.{literal_over, initial_clauses};
-ghost use Rattle.horizon_formula.specs.Coded.{coded};
+ghost use Rattle.formula_defs.specs.Layout.{fact_at, variables};
+ghost use Rattle.formula_defs.specs.Clause.{code};
+ghost use Rattle.formula_defs.specs.Formula.{literal_over, initial_clauses};
+ghost use Rattle.formula_defs.specs.Coded.{coded};
 ghost use Rattle.clause_base.specs.Repeats.{repeated, variables_of};
-ghost use Rattle.step_encoding.specs.Parts.{step_part, time_part, StepsFit, TimesFit};
+ghost use Rattle.step_encoding.specs.own.Parts.{step_part, time_part, StepsFit, TimesFit};
 
 use crate::ends::{add_goal, add_hopeless, add_initial};
 use clause_base::clause_list::ClauseList;
 use clause_base::formula::Formula;
-use clause_base::memory::Memory;
 use clause_base::repeated::Repeated;
 use clause_base::shared_list::SharedList;
+use containers::memory::Memory;
+use formula_defs::layout::Layout;
 use gt_core::task::Task;
-use horizon_formula::layout::Layout;
 use std::alloc::Global;
 
 /// The formula without clauses, with room for those of its ends.

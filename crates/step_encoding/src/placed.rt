@@ -5,9 +5,9 @@ ghost use Rattle.std.specs.List.{AllByRecursion};
 ghost use Rattle.gt_core.specs.Task.{Task as TaskValue};
 ghost use Rattle.gt_core.specs.Published.{Pairwise, order_of};
 ghost use Rattle.clause_base.specs.Formula.{assignment_of};
-ghost use Rattle.horizon_formula.specs.Variables.{layout_of};
-ghost use Rattle.horizon_formula.specs.Coded.{formula_of};
-ghost use Rattle.horizon_formula.specs.Shift.{one_step, one_time};
+ghost use Rattle.formula_defs.specs.Variables.{layout_of};
+ghost use Rattle.formula_defs.specs.Coded.{formula_of};
+ghost use Rattle.formula_defs.specs.Shift.{one_step, one_time};
 ghost use Rattle.step_chains.specs.Chains.{AreChains};
 ghost use Rattle.step_laws.specs.{Form.IsOrderedTask, Form.AreSets, Form.steps_at, Stepping.IsStepping};
 ghost use Rattle.step_encoding.specs.{Limits.most_literals, Numbers.literals_of};
@@ -21,18 +21,18 @@ use crate::truth::true_actions;
 use action_order::order::Order;
 use clause_base::clause_list::ClauseList;
 use clause_base::formula::Formula;
-use clause_base::memory::Memory;
 use clause_base::shared_list::SharedList;
+use containers::memory::Memory;
+use formula_defs::layout::Layout;
 use gt_core::pairs::Pairs;
 use gt_core::task::Task;
-use horizon_formula::layout::Layout;
 use std::alloc::Global;
 use std::marker::{Model, PhantomData};
 use step_chains::Chains;
-use step_template::known::one_time;
-use step_template::known_size::known_size;
-use step_template::step_size::step_size;
-use step_template::template::one_step;
+use step_formula::known::one_time;
+use step_formula::known_size::known_size;
+use step_formula::step_size::step_size;
+use step_formula::template::one_step;
 
 /// Where the chains of an encoding go, and which plans its formulas have by them. It is all that tells one encoding from
 /// another.
@@ -114,7 +114,7 @@ pub struct Placed<'a, P: Placing> {
 
 impl<'a, P: Placing> Model for Placed<'a, P> {
     ghost use Rattle.step_laws.specs.Form.{OrderedTask};
-    ghost use Rattle.step_encoding.specs.Kept.{AreKept};
+    ghost use Rattle.step_encoding.specs.own.Kept.{AreKept};
 
     ghost Value = { OrderedTask };
 

@@ -2,14 +2,14 @@
 
 ghost use Rattle.std.specs.Prelude.{◌≡◌, ◌<◌, ◌++◌, length, OnOk, IfOk};
 ghost use Rattle.std.specs.List.{filter, AllByRecursion};
-ghost use Rattle.horizon_formula.specs.Layout.{action_at, variables};
+ghost use Rattle.formula_defs.specs.Layout.{action_at, variables};
 ghost use Rattle.gt_core.specs.Published.{order_of};
 ghost use Rattle.clause_base.specs.Formula.{assignment_of};
 
 use action_order::numbers::ActNumbers;
 use action_order::order::Order;
-use clause_base::memory::Memory;
-use horizon_formula::layout::Layout;
+use containers::memory::Memory;
+use formula_defs::layout::Layout;
 use std::alloc::Global;
 
 /// The value of a variable.

@@ -1,8 +1,8 @@
 use Rattle.std.proofs.Common.{◌≡◌, ℕ, List, [], ◌∷◌, ◌++◌, reverse, refl, sym, ◌∙◌, subst, inl, inr}
 use Rattle.std.proofs.lemmas.Grind.{reverse_onto}
 use Rattle.gt_core.specs.Published.{Pairwise}
-use Rattle.gt_core.proofs.Basics.{Among, each_at, each_from}
-use Rattle.gt_core.proofs.Pairwise.{among_split, among_left, among_right, pairwise_joined}
+use Rattle.gt_core.proofs.published.Basics.{Among, each_at, each_from}
+use Rattle.gt_core.proofs.published.Pairwise.{among_split, among_left, among_right, pairwise_joined}
 use Rattle.step_laws.proofs.FormLaw.{pairwise_first}
 
 -- What holds of each two elements of a list and of its reverse.

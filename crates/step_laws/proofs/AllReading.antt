@@ -4,20 +4,20 @@ use Rattle.gt_core.specs.Literal.{is_in}
 use Rattle.gt_core.specs.Interference.{disables}
 use Rattle.gt_core.specs.AllStep.{NoneDisables}
 use Rattle.gt_core.specs.Published.{order_of}
-use Rattle.horizon_formula.specs.Layout.{Layout, action_at, chain_at}
-use Rattle.gt_core.proofs.Literals.{in_among}
-use Rattle.gt_core.proofs.Pairwise.{filtered}
-use Rattle.gt_core.proofs.EachOrder.{itself}
+use Rattle.formula_defs.specs.Layout.{Layout, action_at, chain_at}
+use Rattle.gt_core.proofs.published.Literals.{in_among}
+use Rattle.gt_core.proofs.published.Pairwise.{filtered}
+use Rattle.gt_core.proofs.published.EachOrder.{itself}
 use Rattle.clause_base.specs.Formula.{Satisfies}
-use Rattle.horizon_formula.specs.Coded.{formula_of}
-use Rattle.horizon_formula.specs.Variables.{layout_of}
-use Rattle.horizon_formula.proofs.CodedLaw.{decoded}
+use Rattle.formula_defs.specs.Coded.{formula_of}
+use Rattle.formula_defs.specs.Variables.{layout_of}
+use Rattle.formula_defs.proofs.published.CodedLaw.{decoded}
 use Rattle.step_laws.specs.Form.{OrderedTask, IsOrderedTask, set_at, member_at, steps_at}
 use Rattle.step_laws.proofs.OrderLaw.{within}
 use Rattle.step_laws.proofs.PlanLaw.{IsOrderedBy, plan_of}
 use Rattle.step_laws.proofs.FormLaw.{plans_at}
-use Rattle.step_laws.proofs.SetAt.{set_of}
-use Rattle.step_laws.specs.AllPlan.{all_places, IsAllPlanOf}
+use Rattle.step_laws.proofs.published.SetAt.{set_of}
+use Rattle.step_laws.specs.own.AllPlan.{all_places, IsAllPlanOf}
 use Rattle.step_laws.proofs.AllBackward.{pairwise_front, any_two}
 use Rattle.step_laws.proofs.AllWays.{place_there, place_back, all_in_range}
 

@@ -1,16 +1,16 @@
 use Rattle.std.proofs.Common.{arith, ◌≡◌, ◌==◌, ℕ, ◌*◌, ◌<◌, List, reverse, length, Bool, true, false, refl, sym, subst, inl, inr}
 use Rattle.gt_core.specs.Literal.{range}
 use Rattle.gt_core.specs.Published.{Pairwise, order_of}
-use Rattle.gt_core.proofs.Basics.{Among, apart, not_true, same_test, test_same}
-use Rattle.gt_core.proofs.Literals.{among_range}
-use Rattle.gt_core.proofs.Pairwise.{pairwise_map, among_flat, flat_among}
-use Rattle.gt_core.proofs.PublishedLaw.{published_apart}
-use Rattle.horizon_formula.proofs.InRange.{IsInRange}
+use Rattle.gt_core.proofs.published.Basics.{Among, apart, not_true, same_test, test_same}
+use Rattle.gt_core.proofs.published.Literals.{among_range}
+use Rattle.gt_core.proofs.published.Pairwise.{pairwise_map, among_flat, flat_among}
+use Rattle.gt_core.proofs.published.PublishedLaw.{published_apart}
+use Rattle.formula_defs.proofs.published.InRange.{IsInRange}
 use Rattle.step_laws.specs.Form.{OrderedTask, IsOrderedTask}
-use Rattle.step_laws.proofs.Ranges.{in_range_at}
+use Rattle.step_laws.proofs.published.Ranges.{in_range_at}
 use Rattle.step_laws.proofs.FormLaw.{listed_below}
 use Rattle.step_chains.specs.BothWays.{ways}
-use Rattle.step_laws.specs.AllPlan.{all_places}
+use Rattle.step_laws.specs.own.AllPlan.{all_places}
 use Rattle.step_laws.proofs.AllBackward.{among_back, pairwise_back}
 
 -- The places of chains that go both ways.

@@ -4,10 +4,10 @@ use Rattle.std.proofs.lemmas.Bool.Decides.{nat_tests}
 use Rattle.std.proofs.lemmas.Nat.{div-mul-add, div-add-mod', row_fits}
 use Rattle.gt_core.specs.Task.{Task, EffectOf}
 use Rattle.gt_core.specs.Interference.{takes, reads}
-use Rattle.horizon_formula.specs.Layout.{Layout, width, action_at, conditional_at, chain_at, fact_at}
-use Rattle.gt_core.proofs.Basics.{Among}
-use Rattle.horizon_formula.specs.Chain.{chain_length}
-use Rattle.horizon_formula.specs.Variables.{Row, rows_from, has_condition, Chain, chains_from, chain_variables_in}
+use Rattle.formula_defs.specs.Layout.{Layout, width, action_at, conditional_at, chain_at, fact_at}
+use Rattle.gt_core.proofs.published.Basics.{Among}
+use Rattle.formula_defs.specs.Chain.{chain_length}
+use Rattle.formula_defs.specs.Variables.{Row, rows_from, has_condition, Chain, chains_from, chain_variables_in}
 use Rattle.step_laws.proofs.ChainLaw.{HasChainValues}
 use Rattle.std.proofs.lemmas.Bool.{lt-ltb, le-ltb}
 

@@ -2,10 +2,10 @@ use Rattle.std.proofs.Common.{◌≡◌, ℕ, ◌+◌, List, [], ◌∷◌, ◌+
 use Rattle.std.specs.List.{list_any}
 use Rattle.gt_core.specs.Interference.{reads}
 use Rattle.gt_core.specs.Published.{Pairwise}
-use Rattle.gt_core.proofs.Basics.{Among, any_at, each_at, each_from, or_split, or_left, or_right, and_split, apart}
-use Rattle.horizon_formula.specs.Clause.{Literal, Is, Not, clause_true, AllTrue}
-use Rattle.horizon_formula.specs.Chain.{if_read, enter_clauses, pass_clauses}
-use Rattle.horizon_formula.proofs.Satisfied.{joined, parted, implies, implied, excludes, excluded}
+use Rattle.gt_core.proofs.published.Basics.{Among, any_at, each_at, each_from, or_split, or_left, or_right, and_split, apart}
+use Rattle.formula_defs.specs.Clause.{Literal, Is, Not, clause_true, AllTrue}
+use Rattle.formula_defs.specs.Chain.{if_read, enter_clauses, pass_clauses}
+use Rattle.formula_defs.proofs.published.Satisfied.{joined, parted, implies, implied, excludes, excluded}
 
 -- what stands where a reader is left holds of each reader
 read_one : (v : ℕ → Bool) (reads : ℕ → Bool) (ks : List ℕ) (clause : List Literal) (k : ℕ) → AllTrue v (if_read reads ks clause) → Among k ks → reads k ≡ true → clause_true v clause ≡ true

@@ -6,23 +6,23 @@ use Rattle.gt_core.specs.Execution.{gains, loses, CanRun, run}
 use Rattle.gt_core.specs.Interference.{disables, Knows}
 use Rattle.gt_core.specs.Step.{gained, lost, IsStep, IsStepPlan}
 use Rattle.gt_core.specs.Published.{Pairwise, order_of, KeepsApart}
-use Rattle.horizon_formula.specs.Layout.{action_at}
-use Rattle.gt_core.proofs.Basics.{Among, each_at, each_from, any_same, same_if}
-use Rattle.gt_core.proofs.Literals.{holds_same, in_among, among_in, among_range, below_range}
-use Rattle.gt_core.proofs.Pairwise.{among_left, flat_among, filtered, into_filter, pairwise_both}
-use Rattle.horizon_formula.specs.Variables.{layout_of}
-use Rattle.gt_core.proofs.PublishedLaw.{published_keeps_apart, published_all, component_apart}
-use Rattle.gt_core.proofs.RunLaw.{runs_in_order}
-use Rattle.gt_core.proofs.SequenceLaw.{Agree, run_agrees, run_joined, can_run_joined}
+use Rattle.formula_defs.specs.Layout.{action_at}
+use Rattle.gt_core.proofs.published.Basics.{Among, each_at, each_from, any_same, same_if}
+use Rattle.gt_core.proofs.published.Literals.{holds_same, in_among, among_in, among_range, below_range}
+use Rattle.gt_core.proofs.published.Pairwise.{among_left, flat_among, filtered, into_filter, pairwise_both}
+use Rattle.formula_defs.specs.Variables.{layout_of}
+use Rattle.gt_core.proofs.published.PublishedLaw.{published_keeps_apart, published_all, component_apart}
+use Rattle.gt_core.proofs.published.RunLaw.{runs_in_order}
+use Rattle.gt_core.proofs.published.SequenceLaw.{Agree, run_agrees, run_joined, can_run_joined}
 use Rattle.clause_base.specs.Formula.{Satisfies, IsUnsatisfiable}
-use Rattle.horizon_formula.specs.Coded.{formula_of}
+use Rattle.formula_defs.specs.Coded.{formula_of}
 use Rattle.step_laws.specs.Form.{OrderedTask, IsOrderedTask, places_of, set_at, member_at, IsPlanOf, steps_at, steps_for}
-use Rattle.step_laws.proofs.SetAt.{set_of, sets_from}
+use Rattle.step_laws.proofs.published.SetAt.{set_of, sets_from}
 use Rattle.step_laws.proofs.PlanLaw.{LooseStep, IsOrderedBy, plan_of, ordered_by_components}
 use Rattle.step_laws.proofs.FormulaLaw.{AreApart, plan_satisfies, v as of_plan}
-use Rattle.horizon_formula.proofs.CodedLaw.{encoded, decoded}
-use Rattle.step_laws.proofs.Ranges.{in_range_of, member_below, component_of}
-use Rattle.horizon_formula.proofs.InRange.{IsInRange}
+use Rattle.formula_defs.proofs.published.CodedLaw.{encoded, decoded}
+use Rattle.step_laws.proofs.published.Ranges.{in_range_of, member_below, component_of}
+use Rattle.formula_defs.proofs.published.InRange.{IsInRange}
 
 -- The two laws of a form: what a satisfying assignment stands for is a step plan, and each step plan is such.
 
@@ -144,7 +144,7 @@ module _ (form : OrderedTask) (is : IsOrderedTask form) where
       )
 
   -- in a step the members of a component are apart
-  component_parts : (members : ℕ → Bool) → Pairwise (λ a b. members a ≡ true → members b ≡ true → disables task a b ≡ false) order → AreApart task (places_of form) members
+  pub component_parts : (members : ℕ → Bool) → Pairwise (λ a b. members a ≡ true → members b ≡ true → disables task a b ≡ false) order → AreApart task (places_of form) members
   component_parts members o ks m i =
       let among = component_of form.task form.components (ks, m) i in
       pairwise_both _ _ ks (distinct ks among) (pairwise_in _ form.components ks among o)

@@ -5,22 +5,22 @@ use Rattle.gt_core.specs.Task.{Task, EffectOf, effects, precondition, initial_st
 use Rattle.gt_core.specs.Interference.{disables, Knows, takes, reads}
 use Rattle.gt_core.specs.Step.{IsStep}
 use Rattle.gt_core.specs.Published.{Pairwise}
-use Rattle.horizon_formula.specs.Layout.{Layout, action_at, conditional_at, chain_at, fact_at}
-use Rattle.gt_core.proofs.Basics.{apart, Among, all_at, all_from, each_at, each_from, any_same, all_same, or_split, or_left, or_right, not_false, not_true, test_same}
-use Rattle.gt_core.proofs.Literals.{holds_same, below_range}
-use Rattle.horizon_formula.specs.Clause.{Is, Not, clause_true, AllTrue}
-use Rattle.horizon_formula.specs.Chain.{enter_clauses, pass_clauses}
-use Rattle.horizon_formula.specs.Variables.{Row, rows, has_condition, Chain, chains_from, chains, layout_of, variable_at}
-use Rattle.horizon_formula.specs.Formula.{literal_over, precondition_clauses, effect_clauses, frame_clauses, chain_clauses, step_clauses, initial_clauses, goal_clauses, is_single, pair_clause, pair_clauses, clauses_of_horizon}
-use Rattle.horizon_formula.proofs.Satisfied.{joined, satisfied_all, satisfied_map_all}
+use Rattle.formula_defs.specs.Layout.{Layout, action_at, conditional_at, chain_at, fact_at}
+use Rattle.gt_core.proofs.published.Basics.{apart, Among, all_at, all_from, each_at, each_from, any_same, all_same, or_split, or_left, or_right, not_false, not_true, test_same}
+use Rattle.gt_core.proofs.published.Literals.{holds_same, below_range}
+use Rattle.formula_defs.specs.Clause.{Is, Not, clause_true, AllTrue}
+use Rattle.formula_defs.specs.Chain.{enter_clauses, pass_clauses}
+use Rattle.formula_defs.specs.Variables.{Row, rows, has_condition, Chain, chains_from, chains, layout_of, variable_at}
+use Rattle.formula_defs.specs.Formula.{literal_over, precondition_clauses, effect_clauses, frame_clauses, chain_clauses, step_clauses, initial_clauses, goal_clauses, is_single, pair_clause, pair_clauses, clauses_of_horizon}
+use Rattle.formula_defs.proofs.published.Satisfied.{joined, satisfied_all, satisfied_map_all}
 use Rattle.step_laws.proofs.StepLaw.{is_effective, StepHolds, StepMeans, step_holds}
 use Rattle.step_laws.proofs.StepClauses.{over, effect_of_row, Means, unconditional, hold_clauses, preconditions_write}
 use Rattle.step_laws.proofs.ChainLaw.{NoneBefore, enter_holds, pass_holds}
 use Rattle.gt_core.specs.Execution.{IsGoal}
-use Rattle.horizon_formula.proofs.InRange.{IsInRange, past}
-use Rattle.horizon_formula.proofs.Counts.{conditional_count}
+use Rattle.formula_defs.proofs.published.InRange.{IsInRange, past}
+use Rattle.formula_defs.proofs.published.Counts.{conditional_count}
 use Rattle.step_laws.proofs.Assignment.{Agrees, at, at_agrees, agrees_within, conditional_values, length-conditional_values, conditional_value, chain_values, length-chain_values, chain_at_place, has_chain_values, values, at_action, at_conditional, at_chain, at_fact}
-use Rattle.gt_core.proofs.RunLaw.{disables_over}
+use Rattle.gt_core.proofs.published.RunLaw.{disables_over}
 
 -- the members of each place differ, and none in the step disables a later one
 abbrev pub AreApart : Task → List (List ℕ × ℕ) → (ℕ → Bool) → Type 0
@@ -42,10 +42,10 @@ module _ (task : Task) (pairs : List (ℕ × ℕ)) (places : List (List ℕ × �
   v_action : (t a : ℕ) → t < n → a < length task.actions → v (action_at z t a) ≡ steps t a
   v_action t a lt la = at_action z steps of_conditionals of_chains states t a lt la
 
-  v_fact : (t f : ℕ) → f < task.facts → v (fact_at z t f) ≡ states t f
+  pub v_fact : (t f : ℕ) → f < task.facts → v (fact_at z t f) ≡ states t f
   v_fact t f lf = at_fact z steps of_conditionals of_chains states t f lf
 
-  v_holds : (t l : ℕ) → l / 2 < task.facts → holds (λ f. v (fact_at z t f)) l ≡ holds (states t) l
+  pub v_holds : (t l : ℕ) → l / 2 < task.facts → holds (λ f. v (fact_at z t f)) l ≡ holds (states t) l
   v_holds t l h = holds_same (λ f. v (fact_at z t f)) (states t) l (v_fact t (l / 2) h)
 
   v_active : (t : ℕ) → t < n → (e : EffectOf) → Among e (effects task) → is_effective (λ a. v (action_at z t a)) (λ f. v (fact_at z t f)) e ≡ is_effective (steps t) (states t) e
@@ -139,7 +139,7 @@ module _ (task : Task) (pairs : List (ℕ × ℕ)) (places : List (List ℕ × �
   initial_by f true e = or_left _ _ e
   initial_by f false e = or_left _ _ (not_false _ e)
 
-  pair_by : (t l m : ℕ) (b c : Bool) → (l == m) ≡ b → (holds (λ f. v (fact_at z t f)) l || holds (λ f. v (fact_at z t f)) m) ≡ true → AllTrue v (if b then (literal_over (fact_at z t) l ∷ []) ∷ [] else if c then [] else (literal_over (fact_at z t) l ∷ literal_over (fact_at z t) m ∷ []) ∷ [])
+  pub pair_by : (t l m : ℕ) (b c : Bool) → (l == m) ≡ b → (holds (λ f. v (fact_at z t f)) l || holds (λ f. v (fact_at z t f)) m) ≡ true → AllTrue v (if b then (literal_over (fact_at z t) l ∷ []) ∷ [] else if c then [] else (literal_over (fact_at z t) l ∷ literal_over (fact_at z t) m ∷ []) ∷ [])
   pair_by t l m true c e h = (or_left _ _ (over v (fact_at z t) l ∙ elim (or_split _ _ h) [ inl x ↦ x | inr x ↦ ap (holds (λ f. v (fact_at z t f))) (test_same _ _ e) ∙ x ]), tt)
   pair_by t l m false true e h = tt
   pair_by t l m false false e h = (elim (or_split _ _ h) [ inl x ↦ or_left _ _ (over v (fact_at z t) l ∙ x) | inr x ↦ or_right _ _ (or_left _ _ (over v (fact_at z t) m ∙ x)) ], tt)

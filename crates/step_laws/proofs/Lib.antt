@@ -3,15 +3,11 @@ pub mod StepLaw
 pub mod StepClauses
 pub mod OrderLaw
 pub mod PlanLaw
-pub mod SetAt
 pub mod Assignment
 pub mod FormulaLaw
-pub mod Ranges
 pub mod FormLaw
-pub mod SequenceLaw
-pub mod MembersLaw
-pub mod ExistsSteps
 pub mod AllBackward
 pub mod AllWays
 pub mod AllReading
-pub mod AllWriting
+pub mod NeverLaw
+pub mod published

@@ -6,17 +6,17 @@ use Rattle.gt_core.specs.Active.{is_active}
 use Rattle.gt_core.specs.Execution.{makes, gains, loses}
 use Rattle.gt_core.specs.Interference.{surely_gains, surely_loses, may_make, disables, Knows, has_clause, exclusive, surely_makes, surely_clash, together, takes, reads, asks}
 use Rattle.gt_core.specs.Published.{Pairwise, KeepsApart}
-use Rattle.gt_core.proofs.Basics.{Among, passing, any_at, all_at, each_at, each_from, or_split, or_left, or_right, and_split, and_both, not_split, not_false, not_true, apart, same_test, test_same}
-use Rattle.gt_core.proofs.Literals.{opposite_holds, opposite_twice, half_opposite, among_range}
-use Rattle.gt_core.proofs.Makers.{own_among}
-use Rattle.gt_core.proofs.Pairwise.{pairwise_map, pairwise_all, among_map, among_flat}
-use Rattle.horizon_formula.specs.Clause.{AllTrue}
-use Rattle.horizon_formula.specs.Chain.{chain_length, enter_clauses, pass_clauses}
-use Rattle.horizon_formula.specs.Variables.{Chain, chains_from, chain_places, chains}
-use Rattle.horizon_formula.specs.Formula.{chain_clauses}
-use Rattle.horizon_formula.proofs.Satisfied.{parted, satisfied_each}
+use Rattle.gt_core.proofs.published.Basics.{Among, passing, any_at, all_at, each_at, each_from, or_split, or_left, or_right, and_split, and_both, not_split, not_false, not_true, apart, same_test, test_same}
+use Rattle.gt_core.proofs.published.Literals.{opposite_holds, opposite_twice, half_opposite, among_range}
+use Rattle.gt_core.proofs.published.Makers.{own_among}
+use Rattle.gt_core.proofs.published.Pairwise.{pairwise_map, pairwise_all, among_map, among_flat}
+use Rattle.formula_defs.specs.Clause.{AllTrue}
+use Rattle.formula_defs.specs.Chain.{chain_length, enter_clauses, pass_clauses}
+use Rattle.formula_defs.specs.Variables.{Chain, chains_from, chain_places, chains}
+use Rattle.formula_defs.specs.Formula.{chain_clauses}
+use Rattle.formula_defs.proofs.published.Satisfied.{parted, satisfied_each}
 use Rattle.step_laws.proofs.ChainLaw.{NoneBefore, chain_holds}
-use Rattle.horizon_formula.proofs.InRange.{HasFacts}
+use Rattle.formula_defs.proofs.published.InRange.{HasFacts}
 
 -- two actions that can run in one state without a clash are not kept apart by what is known of it
 pub clause_known : (pairs : List (ℕ × ℕ)) (s : ℕ → Bool) (l m : ℕ) → Knows pairs s → has_clause pairs l m ≡ true → (holds s l ≡ true) ⊎ (holds s m ≡ true)

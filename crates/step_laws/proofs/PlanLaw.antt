@@ -6,18 +6,18 @@ use Rattle.gt_core.specs.Interference.{disables, Knows}
 use Rattle.gt_core.specs.Step.{next}
 use Rattle.gt_core.specs.Execution.{gains, loses, IsGoal}
 use Rattle.gt_core.specs.Published.{Pairwise, order_of, KeepsApart}
-use Rattle.horizon_formula.specs.Layout.{Layout, action_at, conditional_at, chain_at, fact_at}
-use Rattle.gt_core.proofs.Basics.{passing, all_from, each_from, or_split, or_left, or_right, and_split, same_test, test_same}
-use Rattle.gt_core.proofs.Literals.{among_range}
-use Rattle.gt_core.proofs.Pairwise.{pairwise_flat}
-use Rattle.horizon_formula.specs.Clause.{Is, Not, truth, clause_true, AllTrue}
-use Rattle.horizon_formula.specs.Variables.{Row, rows, has_condition, chains, chain_places, layout_of, variable_at}
-use Rattle.horizon_formula.specs.Formula.{literal_over, precondition_clauses, effect_clauses, frame_clauses, chain_clauses, step_clauses, initial_clauses, goal_clauses, is_single, pair_clause, pair_clauses, clauses_of_horizon}
-use Rattle.horizon_formula.proofs.Satisfied.{parted, satisfied_each, satisfied_map_each}
+use Rattle.formula_defs.specs.Layout.{Layout, action_at, conditional_at, chain_at, fact_at}
+use Rattle.gt_core.proofs.published.Basics.{passing, all_from, each_from, or_split, or_left, or_right, and_split, same_test, test_same}
+use Rattle.gt_core.proofs.published.Literals.{among_range}
+use Rattle.gt_core.proofs.published.Pairwise.{pairwise_flat}
+use Rattle.formula_defs.specs.Clause.{Is, Not, truth, clause_true, AllTrue}
+use Rattle.formula_defs.specs.Variables.{Row, rows, has_condition, chains, chain_places, layout_of, variable_at}
+use Rattle.formula_defs.specs.Formula.{literal_over, precondition_clauses, effect_clauses, frame_clauses, chain_clauses, step_clauses, initial_clauses, goal_clauses, is_single, pair_clause, pair_clauses, clauses_of_horizon}
+use Rattle.formula_defs.proofs.published.Satisfied.{parted, satisfied_each, satisfied_map_each}
 use Rattle.step_laws.proofs.StepLaw.{step_means}
 use Rattle.step_laws.proofs.StepClauses.{over, IsShared, clauses_hold, preconditions_read}
 use Rattle.step_laws.proofs.OrderLaw.{AllRun, NoClash, across, within, component_place}
-use Rattle.horizon_formula.proofs.InRange.{HasFacts}
+use Rattle.formula_defs.proofs.published.InRange.{HasFacts}
 
 -- what the clauses of a step say of its true actions, of which some may be no actions of the task
 pub record LooseStep (task : Task) (order : List ℕ) (s members t : ℕ → Bool) : Type 0 where

@@ -3,13 +3,13 @@ use Rattle.std.specs.List.{list_any, filter}
 use Rattle.std.proofs.lemmas.Bool.Decides.{nat_tests}
 use Rattle.gt_core.specs.Literal.{opposite, holds, all_hold, range}
 use Rattle.gt_core.specs.Task.{Action, Task, EffectOf, effects}
-use Rattle.gt_core.proofs.Basics.{Among, all_at, all_from, or_left, or_right, and_split, and_both}
-use Rattle.gt_core.proofs.Literals.{opposite_holds, among_range, below_range}
-use Rattle.horizon_formula.specs.Clause.{Literal, Is, Not, truth, clause_true, AllTrue}
-use Rattle.horizon_formula.specs.Variables.{Row, rows_from, rows, has_condition}
-use Rattle.horizon_formula.specs.Formula.{literal_over, precondition_clauses, effects_with, meaning_clauses, result_clause, effect_clauses, frame_clauses}
-use Rattle.horizon_formula.proofs.Satisfied.{joined, parted, satisfied_each, satisfied_all, satisfied_map_each, satisfied_map_all, implies, implied}
-use Rattle.horizon_formula.proofs.InRange.{precondition_in}
+use Rattle.gt_core.proofs.published.Basics.{Among, all_at, all_from, or_left, or_right, and_split, and_both}
+use Rattle.gt_core.proofs.published.Literals.{opposite_holds, among_range, below_range}
+use Rattle.formula_defs.specs.Clause.{Literal, Is, Not, truth, clause_true, AllTrue}
+use Rattle.formula_defs.specs.Variables.{Row, rows_from, rows, has_condition}
+use Rattle.formula_defs.specs.Formula.{literal_over, precondition_clauses, effects_with, meaning_clauses, result_clause, effect_clauses, frame_clauses}
+use Rattle.formula_defs.proofs.published.Satisfied.{joined, parted, satisfied_each, satisfied_all, satisfied_map_each, satisfied_map_all, implies, implied}
+use Rattle.formula_defs.proofs.published.InRange.{precondition_in}
 use Rattle.step_laws.proofs.StepLaw.{is_effective, StepHolds}
 
 over_by : (v : ℕ → Bool) (k : ℕ) (b : Bool) → truth v (if b then Is k else Not k) ≡ (if b then v k else not (v k))

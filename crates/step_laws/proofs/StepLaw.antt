@@ -4,10 +4,10 @@ use Rattle.gt_core.specs.Literal.{opposite, holds, all_hold}
 use Rattle.gt_core.specs.Task.{Task, EffectOf, effects}
 use Rattle.gt_core.specs.Execution.{makes, gains, loses}
 use Rattle.gt_core.specs.Step.{gained, lost, next}
-use Rattle.gt_core.proofs.Basics.{Among, passing, any_at, or_left, and_split, and_both, not_split, not_false, not_true, apart, cases, same_test, test_same}
-use Rattle.gt_core.proofs.Literals.{holds_add, holds_delete, add_is_even, delete_opposite, even_is_add, odd_is_delete}
-use Rattle.gt_core.proofs.Makers.{Maker, maker, made, gainer, gained_by, loser, lost_by}
-use Rattle.horizon_formula.proofs.InRange.{HasFacts}
+use Rattle.gt_core.proofs.published.Basics.{Among, passing, any_at, or_left, and_split, and_both, not_split, not_false, not_true, apart, cases, same_test, test_same}
+use Rattle.gt_core.proofs.published.Literals.{holds_add, holds_delete, add_is_even, delete_opposite, even_is_add, odd_is_delete}
+use Rattle.gt_core.proofs.published.Makers.{Maker, maker, made, gainer, gained_by, loser, lost_by}
+use Rattle.formula_defs.proofs.published.InRange.{HasFacts}
 
 -- the effect is one of an active member: it is a member's, and its condition holds
 abbrev pub is_effective : (ℕ → Bool) → (ℕ → Bool) → EffectOf → Bool

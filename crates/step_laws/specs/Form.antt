@@ -7,8 +7,8 @@ use Rattle.gt_core.specs.Reached.{HoldsWherever}
 use Rattle.gt_core.specs.Published.{IsPublished, order_of}
 use Rattle.gt_core.specs.Step.{IsStepPlan}
 use Rattle.gt_core.specs.Clauses.{KnownClauses, IsKnownClauses}
-use Rattle.horizon_formula.specs.Layout.{action_at}
-use Rattle.horizon_formula.specs.Variables.{layout_of, chain_places}
+use Rattle.formula_defs.specs.Layout.{action_at}
+use Rattle.formula_defs.specs.Variables.{layout_of, chain_places}
 
 -- a task, the clauses known of its states, and its published order as components
 pub record OrderedTask : Type 0 where

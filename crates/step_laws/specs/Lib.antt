@@ -1,4 +1,4 @@
 pub mod Form
 pub mod Stepping
-pub mod Laws
-pub mod AllPlan
+pub mod Never
+pub mod own

@@ -3,8 +3,8 @@ use Rattle.gt_core.specs.Task.{Task}
 use Rattle.gt_core.specs.Step.{IsStepPlan}
 use Rattle.gt_core.specs.Published.{order_of}
 use Rattle.clause_base.specs.Formula.{Satisfies, IsUnsatisfiable}
-use Rattle.horizon_formula.specs.Coded.{formula_of}
-use Rattle.horizon_formula.proofs.InRange.{IsInRange}
+use Rattle.formula_defs.specs.Coded.{formula_of}
+use Rattle.formula_defs.proofs.published.InRange.{IsInRange}
 use Rattle.step_laws.specs.Form.{OrderedTask, IsOrderedTask, AreSets, steps_at}
 
 -- What an encoding rests on: which sets of actions are a plan, for a task, an order of its actions and a number of steps,

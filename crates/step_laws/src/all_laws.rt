@@ -1,7 +1,7 @@
 //! What the formula of all-steps says, as a contract.
 
-ghost use Rattle.step_laws.specs.Laws.{SatisfyingStandsForPlan, PlanHasSatisfying, UnsatisfiableHasNoPlan, SequenceHasPlan};
-ghost use Rattle.step_laws.specs.AllPlan.{all_places, IsAllPlanOf};
+ghost use Rattle.step_laws.specs.own.Laws.{SatisfyingStandsForPlan, PlanHasSatisfying, UnsatisfiableHasNoPlan, SequenceHasPlan};
+ghost use Rattle.step_laws.specs.own.AllPlan.{all_places, IsAllPlanOf};
 
 /// The laws of the formulas of all-steps. It does nothing.
 pub fn laws()

@@ -7,9 +7,9 @@ use Rattle.gt_core.specs.Task.{Task}
 use Rattle.gt_core.specs.Published.{IsPublished, order_of}
 use Rattle.gt_core.specs.Step.{IsStep}
 use Rattle.gt_core.specs.Laws.{EmptySetIsStep, PublishedHasEachOnce}
-use Rattle.gt_core.proofs.Basics.{apart, each_from}
-use Rattle.gt_core.proofs.Literals.{among_in}
-use Rattle.gt_core.proofs.Pairwise.{filtered, pairwise_filter}
+use Rattle.gt_core.proofs.published.Basics.{apart, each_from}
+use Rattle.gt_core.proofs.published.Literals.{among_in}
+use Rattle.gt_core.proofs.published.Pairwise.{filtered, pairwise_filter}
 use Rattle.step_plans.specs.Plans.{NoneBarred, IsStepPlanOf, AreListed, HasActionsOnce}
 
 -- what there is at a time below k, and then what is last

@@ -2,4 +2,4 @@ pub mod Listed
 pub mod Short
 pub mod Sets
 pub mod Grow
-pub mod ByPlace
+pub mod published

@@ -9,18 +9,18 @@ use Rattle.gt_core.specs.Execution.{run}
 use Rattle.gt_core.specs.Published.{IsPublished, order_of}
 use Rattle.gt_core.specs.Step.{sequence_of}
 use Rattle.gt_core.specs.Laws.{StepPlanRunsInOrder, IsRunToGoal}
-use Rattle.gt_core.proofs.Basics.{Among, same_if}
-use Rattle.gt_core.proofs.Literals.{among_in, in_among}
-use Rattle.gt_core.proofs.Pairwise.{filtered, into_filter}
-use Rattle.horizon_formula.specs.Layout.{action_at}
-use Rattle.horizon_formula.specs.Variables.{layout_of}
+use Rattle.gt_core.proofs.published.Basics.{Among, same_if}
+use Rattle.gt_core.proofs.published.Literals.{among_in, in_among}
+use Rattle.gt_core.proofs.published.Pairwise.{filtered, into_filter}
+use Rattle.formula_defs.specs.Layout.{action_at}
+use Rattle.formula_defs.specs.Variables.{layout_of}
 use Rattle.pd_model.specs.Plan.{IsPlan, meets_goal}
 use Rattle.pd_model.specs.declared.calls.Call.{Call}
 use Rattle.pd_model.specs.declared.parts.Parts.{Parts}
-use Rattle.grounding_laws.specs.Grounded.{Grounded, IsGrounded}
-use Rattle.grounding_laws.specs.Laws.{AreNumbers, ActionsAreCalls, GoalsAgree}
+use Rattle.grounding_defs.specs.Grounded.{Grounded, IsGrounded}
+use Rattle.grounding_defs.specs.Laws.{AreNumbers, ActionsAreCalls, GoalsAgree}
 use Rattle.step_laws.specs.Form.{OrderedTask, member_at, steps_at}
-use Rattle.step_laws.proofs.SetAt.{set_next}
+use Rattle.step_laws.proofs.published.SetAt.{set_next}
 use Rattle.step_plans.specs.Plans.{AreStepPlan, AreListed, in_order, actions_in}
 
 -- the sets from a time on are these lists, in the order

@@ -5,12 +5,12 @@ use Rattle.std.specs.List.{filter}
 use Rattle.gt_core.specs.Literal.{is_in, range}
 use Rattle.gt_core.specs.Task.{Task, action_numbers}
 use Rattle.gt_core.specs.Step.{IsStep, IsStepPlan}
-use Rattle.gt_core.proofs.Basics.{same_if}
-use Rattle.gt_core.proofs.Literals.{among_in, in_among, among_range}
-use Rattle.gt_core.proofs.Pairwise.{filtered, into_filter}
+use Rattle.gt_core.proofs.published.Basics.{same_if}
+use Rattle.gt_core.proofs.published.Literals.{among_in, in_among, among_range}
+use Rattle.gt_core.proofs.published.Pairwise.{filtered, into_filter}
 use Rattle.step_laws.specs.Form.{member_at}
 use Rattle.step_plans.specs.Plans.{NoneBarred, IsStepPlanOf}
-use Rattle.step_laws.proofs.SetAt.{set_of, sets_from}
+use Rattle.step_laws.proofs.published.SetAt.{set_of, sets_from}
 
 -- the members of the first n sets, by number
 abbrev pub lists_of : Task → (ℕ → ℕ → Bool) → ℕ → List (List ℕ)

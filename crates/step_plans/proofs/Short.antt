@@ -8,10 +8,10 @@ use Rattle.pd_model.specs.Plan.{IsPlan, exec_all, meets_goal}
 use Rattle.pd_model.specs.declared.atoms.Atom.{Atom}
 use Rattle.pd_model.specs.declared.calls.Call.{Call}
 use Rattle.pd_model.specs.declared.parts.Parts.{Parts}
-use Rattle.grounding_laws.specs.Grounded.{Grounded, IsGrounded}
-use Rattle.grounding_laws.specs.Laws.{AreNumbers, CallsAreActions, GoalsAgree}
+use Rattle.grounding_defs.specs.Grounded.{Grounded, IsGrounded}
+use Rattle.grounding_defs.specs.Laws.{AreNumbers, CallsAreActions, GoalsAgree}
 use Rattle.step_laws.specs.Form.{member_at}
-use Rattle.step_laws.proofs.SequenceLaw.{one_by_one, one_member, run_is_step_plan}
+use Rattle.step_laws.proofs.published.SequenceLaw.{one_by_one, one_member, run_is_step_plan}
 use Rattle.step_plans.specs.Plans.{IsStepPlanOf}
 
 same_length : (g : Grounded) (calls : List Call) (numbers : List ℕ) → AreNumbers g calls numbers → length numbers ≡ length calls

@@ -4,7 +4,7 @@ use Rattle.clause_base.specs.Formula.{Cnf}
 use Rattle.gt_core.specs.Task.{Task}
 use Rattle.gt_core.specs.Published.{IsPublished}
 use Rattle.two_invariants.specs.Closed.{AreInvariants}
-use Rattle.horizon_formula.specs.Coded.{formula_of}
+use Rattle.formula_defs.specs.Coded.{formula_of}
 use Rattle.step_laws.specs.Form.{OrderedTask}
 
 -- the clauses that are known of a task, which are its invariants, and the published order of its actions under them, as its components

@@ -7,8 +7,8 @@ use Rattle.gt_core.specs.Published.{IsPublished, order_of}
 use Rattle.pd_model.specs.Plan.{IsPlan}
 use Rattle.pd_model.specs.declared.calls.Call.{Call}
 use Rattle.pd_model.specs.declared.parts.Parts.{Parts}
-use Rattle.grounding_laws.specs.Grounded.{Grounded, IsGrounded}
-use Rattle.grounding_laws.specs.Laws.{AreNumbers}
+use Rattle.grounding_defs.specs.Grounded.{Grounded, IsGrounded}
+use Rattle.grounding_defs.specs.Laws.{AreNumbers}
 use Rattle.step_laws.specs.Form.{OrderedTask, member_at, steps_at, steps_for}
 use Rattle.step_plans.specs.Plans.{IsStepPlanOf, AreStepPlan, AreListed, HasActionsOnce, in_order, actions_in}
 

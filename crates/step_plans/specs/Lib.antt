@@ -1,4 +1,4 @@
 pub mod Plans
 pub mod Laws
-pub mod Linear
 pub mod Known
+pub mod own

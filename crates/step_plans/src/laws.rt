@@ -15,5 +15,5 @@ pub fn laws()
     ensures listed_at { SetsAtPlacesAreListed }
 {
     gt_core::laws::laws();
-    grounding_laws::laws::laws();
+    grounding_defs::laws::laws();
 }

@@ -5,7 +5,7 @@ ghost use Rattle.std.specs.List.{filter};
 ghost use Rattle.gt_core.specs.Literal.{is_in};
 ghost use Rattle.gt_core.specs.Published.{order_of};
 ghost use Rattle.step_plans.specs.Plans.{in_order};
-ghost use Rattle.step_plans.specs.Linear.{ArePlanOf};
+ghost use Rattle.step_plans.specs.own.Linear.{ArePlanOf};
 
 use action_order::numbers::ActNumbers;
 use action_order::order::Order;
@@ -34,6 +34,7 @@ fn push_members(order: &Order, set: &[u32], actions: &mut Vec<u32>) -> Result<()
 }
 
 /// The members of each step in published order, step after step. Where the steps are a step plan, their calls are a plan.
+/// The program does not call it, since the steps of its plans come listed in published order.
 pub fn linearise(alloc: Global, order: &Order, steps: &Steps) -> Result<ActNumbers, Memory>
     ensures listed { IfOk result (λ actions. actions ≡ in_order (order_of order.now) steps.now) }
     ensures plan { IfOk result (λ actions. ArePlanOf order.now steps.now actions) }

@@ -2,10 +2,10 @@ use Rattle.std.proofs.Common.{◌≡◌, ◌==◌, ℕ, ◌*◌, List, Bool, tru
 use Rattle.bit_sets.specs.Rows.{row_has, IsPairAcross}
 use Rattle.gt_core.specs.Literal.{opposite}
 use Rattle.gt_core.specs.Task.{Action}
-use Rattle.gt_core.proofs.Basics.{passing, or_left, and_split, not_true}
+use Rattle.gt_core.proofs.published.Basics.{passing, or_left, and_split, not_true}
 use Rattle.implied_literals.specs.Tested.{IsSetOf, AreRowsOf, with_more, has_no_pair, may_take, is_sure, breaks_with, breaks_by}
 use Rattle.implied_literals.specs.declared.known.Known.{Known}
-use Rattle.implied_literals.proofs.Exact.{no_pair_to}
+use Rattle.implied_literals.proofs.published.Exact.{no_pair_to}
 use Rattle.two_invariants.proofs.Steps.{more_within}
 
 -- An action that knows a contradiction breaks nothing.

@@ -4,12 +4,12 @@ use Rattle.std.specs.List.{list_all}
 use Rattle.std.proofs.lemmas.Bool.{cases_lt}
 use Rattle.bit_sets.specs.Rows.{row_has}
 use Rattle.gt_core.specs.Literal.{opposite}
-use Rattle.gt_core.proofs.Basics.{and_split, and_both}
+use Rattle.gt_core.proofs.published.Basics.{and_split, and_both}
 use Rattle.implied_literals.specs.Rows.{IsPart}
 use Rattle.implied_literals.specs.Tested.{with_more, has_no_pair}
-use Rattle.two_invariants.specs.Groups.{group_with, GroupFits}
-use Rattle.two_invariants.specs.Numbers.{finds, FindsMore}
-use Rattle.two_invariants.specs.Index.{IsNumbered, gives_in, IsGiver, AreGivers, IsTaker, AreTakers}
+use Rattle.two_invariants.specs.own.Groups.{group_with, GroupFits}
+use Rattle.two_invariants.specs.own.Numbers.{finds, FindsMore}
+use Rattle.two_invariants.specs.own.Index.{IsNumbered, gives_in, IsGiver, AreGivers, IsTaker, AreTakers}
 use Rattle.two_invariants.specs.declared.groups.Group.{Group}
 use Rattle.two_invariants.specs.declared.givers.Givers.{Givers}
 use Rattle.two_invariants.specs.declared.takers.Takers.{Takers}

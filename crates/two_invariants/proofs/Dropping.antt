@@ -5,10 +5,10 @@ use Rattle.std.proofs.lemmas.Bool.Decides.{nat_tests}
 use Rattle.std.proofs.lemmas.List.{get_or_read}
 use Rattle.bit_sets.specs.Rows.{row_has}
 use Rattle.gt_core.specs.Literal.{opposite}
-use Rattle.gt_core.proofs.Basics.{apart, cases, or_left, or_split, same_test, test_same}
+use Rattle.gt_core.proofs.published.Basics.{apart, cases, or_left, or_split, same_test, test_same}
 use Rattle.implied_literals.specs.Rows.{clause_in, row_at}
-use Rattle.two_invariants.specs.Losses.{IsDropped}
-use Rattle.implied_literals.proofs.Steps.{past_rows}
+use Rattle.two_invariants.specs.own.Losses.{IsDropped}
+use Rattle.implied_literals.proofs.published.Steps.{past_rows}
 use Rattle.two_invariants.proofs.Grouping.{and_one}
 
 -- Clauses are dropped from the rows of both their literals.

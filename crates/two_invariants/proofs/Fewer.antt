@@ -3,7 +3,7 @@ use Rattle.gt_core.specs.Literal.{opposite}
 use Rattle.gt_core.specs.Task.{Effect, Action}
 use Rattle.implied_literals.specs.Known.{IsKnown, AllKnown, IsConsistent}
 use Rattle.implied_literals.specs.Breaks.{Takes, Loses, Gives, Sure, BreaksBy, Breaks}
-use Rattle.implied_literals.proofs.Lists.{any_map, all_map}
+use Rattle.implied_literals.proofs.published.Lists.{any_map, all_map}
 
 -- Under a larger set of clauses an action breaks fewer of them.
 

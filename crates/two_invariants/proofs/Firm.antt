@@ -2,9 +2,9 @@ use Rattle.std.proofs.Common.{◌≡◌, ◌==◌, ℕ, List, Bool, true, false,
 use Rattle.std.specs.List.{list_any}
 use Rattle.gt_core.specs.Literal.{opposite}
 use Rattle.gt_core.specs.Task.{Effect}
-use Rattle.gt_core.proofs.Basics.{passing, any_at, or_left, and_split, and_both, not_true, apart}
+use Rattle.gt_core.proofs.published.Basics.{passing, any_at, or_left, and_split, and_both, not_true, apart}
 use Rattle.implied_literals.specs.Tested.{with_more, may_take, loses_by, is_sure, breaks_with}
-use Rattle.two_invariants.specs.Plain.{has_opposite}
+use Rattle.two_invariants.specs.own.Plain.{has_opposite}
 use Rattle.two_invariants.proofs.Steps.{opposite_test}
 
 -- An action breaks no clause where its literal that is not taken is known before it and not taken by it.

@@ -3,17 +3,17 @@ use Rattle.std.specs.List.{AllByRecursion}
 use Rattle.gt_core.specs.Task.{Action, Task, action}
 use Rattle.gt_core.specs.Interference.{has_clause}
 use Rattle.gt_core.specs.Clauses.{KnownClauses, IsKnownClauses}
-use Rattle.gt_core.proofs.Basics.{Among, passing, any_at, or_split, or_left, or_right, and_split, and_both, not_false, cases, apart, each_at}
-use Rattle.gt_core.proofs.Within.{among_at}
+use Rattle.gt_core.proofs.published.Basics.{Among, passing, any_at, or_split, or_left, or_right, and_split, and_both, not_false, cases, apart, each_at}
+use Rattle.gt_core.proofs.published.Within.{among_at}
 use Rattle.implied_literals.specs.Breaks.{BreaksBy, Breaks}
 use Rattle.two_invariants.specs.Closed.{IsClosed, AreInvariants}
 use Rattle.implied_literals.specs.Rows.{clause_in, AreRows}
 use Rattle.implied_literals.specs.Tested.{AreKnown, AsksAmong, breaks_by}
-use Rattle.two_invariants.specs.Rounds.{breaks_any, IsRound}
-use Rattle.two_invariants.specs.Greatest.{Surrounds}
+use Rattle.two_invariants.specs.own.Rounds.{breaks_any, IsRound}
+use Rattle.two_invariants.specs.own.Greatest.{Surrounds}
 use Rattle.implied_literals.specs.declared.known.Known.{Known}
 use Rattle.two_invariants.proofs.Fewer.{breaks_less}
-use Rattle.implied_literals.proofs.Exact.{breaks_to, breaks_from, either_breaks, breaks_either}
+use Rattle.implied_literals.proofs.published.Exact.{breaks_to, breaks_from, either_breaks, breaks_either}
 use Rattle.std.proofs.Math.Bool.{or_comm}
 use Rattle.two_invariants.proofs.RoundLaw.{both_within, at_number, and_not_true}
 

@@ -5,12 +5,12 @@ use Rattle.std.proofs.lemmas.Bool.{cases_lt, lt-ltb as lt_test, le-ltb as ge_tes
 use Rattle.bit_sets.specs.Rows.{row_has, IsLeastFrom}
 use Rattle.gt_core.specs.Literal.{opposite}
 use Rattle.gt_core.specs.Task.{Effect}
-use Rattle.gt_core.proofs.Basics.{or_split, or_left, or_right, not_true, same_test, test_same}
+use Rattle.gt_core.proofs.published.Basics.{or_split, or_left, or_right, not_true, same_test, test_same}
 use Rattle.implied_literals.specs.Tested.{EffectFits}
-use Rattle.two_invariants.specs.Groups.{effect_with, group_with, GroupFits}
+use Rattle.two_invariants.specs.own.Groups.{effect_with, group_with, GroupFits}
 use Rattle.two_invariants.specs.declared.groups.Group.{Group}
 use Rattle.two_invariants.proofs.Steps.{any_rest, opposite_test}
-use Rattle.implied_literals.proofs.Steps.{any_push}
+use Rattle.implied_literals.proofs.published.Steps.{any_push}
 
 -- What the loops over groups of effects need.
 

@@ -6,15 +6,15 @@ use Rattle.std.proofs.lemmas.List.Folds.{list_any_at}
 use Rattle.std.proofs.Math.Bool.{or-false}
 use Rattle.bit_sets.specs.Rows.{row_has}
 use Rattle.gt_core.specs.Literal.{opposite}
-use Rattle.gt_core.proofs.Basics.{or_split, or_left, or_right, and_split, and_both, not_true, apart, test_same, same_if, passing, all_at, all_from, each_at, Among}
-use Rattle.gt_core.proofs.Literals.{opposite_twice}
+use Rattle.gt_core.proofs.published.Basics.{or_split, or_left, or_right, and_split, and_both, not_true, apart, test_same, same_if, passing, all_at, all_from, each_at, Among}
+use Rattle.gt_core.proofs.published.Literals.{opposite_twice}
 use Rattle.implied_literals.specs.Breaks.{is_add}
 use Rattle.implied_literals.specs.Rows.{row_at, IsPart}
 use Rattle.implied_literals.specs.Tested.{with_more, has_no_pair}
-use Rattle.two_invariants.specs.Groups.{group_with, may_take_by, may_lose, is_sure_by, GroupFits}
-use Rattle.implied_literals.proofs.Steps.{opposite_below}
-use Rattle.two_invariants.specs.Numbers.{finds}
-use Rattle.two_invariants.specs.Index.{IsNumbered, IsGroupOf, gives_in, AreGivers, IsGiver, takes_in, AreTakers, IsFirm}
+use Rattle.two_invariants.specs.own.Groups.{group_with, may_take_by, may_lose, is_sure_by, GroupFits}
+use Rattle.implied_literals.proofs.published.Steps.{opposite_below}
+use Rattle.two_invariants.specs.own.Numbers.{finds}
+use Rattle.two_invariants.specs.own.Index.{IsNumbered, IsGroupOf, gives_in, AreGivers, IsGiver, takes_in, AreTakers, IsFirm}
 use Rattle.two_invariants.specs.declared.groups.Group.{Group}
 use Rattle.two_invariants.specs.declared.givers.Givers.{Givers}
 use Rattle.two_invariants.specs.declared.takers.Takers.{Takers}

@@ -3,8 +3,8 @@ use Rattle.std.specs.Prelude.{nat_lt, nat_le}
 use Rattle.std.proofs.lemmas.Bool.{cases_lt, lt-ltb, ltb-true, le-ltb}
 use Rattle.std.proofs.lemmas.Bool.Decides.{nat_tests}
 use Rattle.bit_sets.specs.Rows.{row_has}
-use Rattle.gt_core.proofs.Basics.{cases, not_true, or_split, or_left, or_right, and_split, and_both, same_test, test_same, same_if}
-use Rattle.two_invariants.specs.Listed.{is_from}
+use Rattle.gt_core.proofs.published.Basics.{cases, not_true, or_split, or_left, or_right, and_split, and_both, same_test, test_same, same_if}
+use Rattle.two_invariants.specs.own.Listed.{is_from}
 
 -- The clauses of rows as a list.
 

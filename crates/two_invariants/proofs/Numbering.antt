@@ -1,9 +1,9 @@
 use Rattle.std.proofs.Common.{arith, ◌≡◌, ◌==◌, ℕ, zero, suc, ◌<◌, List, [], ◌∷◌, ◌++◌, length, get_or, set, true, refl, ap, sym, ◌∙◌, ◌%◌, Vec, Global}
 use Rattle.std.specs.List.{list_any}
-use Rattle.gt_core.proofs.Basics.{or_left, or_right, same_test}
+use Rattle.gt_core.proofs.published.Basics.{or_left, or_right, same_test}
 use Rattle.std.proofs.lemmas.List.{length-set}
-use Rattle.two_invariants.specs.Numbers.{numbers_at, has_number}
-use Rattle.implied_literals.proofs.Steps.{any_push}
+use Rattle.two_invariants.specs.own.Numbers.{numbers_at, has_number}
+use Rattle.implied_literals.proofs.published.Steps.{any_push}
 
 -- Lists of numbers by key.
 

@@ -3,7 +3,7 @@ use Rattle.std.specs.List.{AllByRecursion}
 use Rattle.gt_core.specs.Interference.{has_clause}
 use Rattle.gt_core.specs.Published.{Pairwise}
 use Rattle.gt_core.specs.Clauses.{IsClause, IsBefore}
-use Rattle.gt_core.proofs.Basics.{Among, passing, any_at, or_split, or_left, and_split, and_both, same_test, test_same, each_at}
+use Rattle.gt_core.proofs.published.Basics.{Among, passing, any_at, or_split, or_left, and_split, and_both, same_test, test_same, each_at}
 use Rattle.two_invariants.specs.Laws.{OneListOfInvariants}
 
 -- Sorted lists of the same clauses are equal.

@@ -3,10 +3,10 @@ use Rattle.std.specs.List.{list_any, list_all}
 use Rattle.std.proofs.Math.Bool.{or-false}
 use Rattle.gt_core.specs.Literal.{opposite}
 use Rattle.gt_core.specs.Task.{Effect}
-use Rattle.gt_core.proofs.Basics.{Among, any_same, all_at, test_same}
+use Rattle.gt_core.proofs.published.Basics.{Among, any_same, all_at, test_same}
 use Rattle.implied_literals.specs.Breaks.{is_add}
 use Rattle.implied_literals.specs.Tested.{with_more, has_no_pair, gives, may_take, loses_by, is_sure, breaks_with}
-use Rattle.two_invariants.specs.Plain.{adds_plainly, takes_plainly, breaks_plainly}
+use Rattle.two_invariants.specs.own.Plain.{adds_plainly, takes_plainly, breaks_plainly}
 use Rattle.two_invariants.proofs.Steps.{any_rest, opposite_test}
 use Rattle.two_invariants.proofs.Grouping.{and_one}
 

@@ -4,22 +4,22 @@ use Rattle.std.specs.List.{list_any, AllByRecursion, AllZip, range_with_len}
 use Rattle.gt_core.specs.Task.{Action, Task}
 use Rattle.gt_core.specs.Lawful.{is_task, is_action}
 use Rattle.gt_core.specs.Active.{EffectWithin}
-use Rattle.gt_core.proofs.Basics.{Among, passing, any_at, or_split, or_left, or_right, and_split, and_both, cases, test_same, same_if, and_same, apart, each_at, each_from, all_at}
-use Rattle.gt_core.proofs.Within.{lawful, literals_within, effects_within, among_at}
+use Rattle.gt_core.proofs.published.Basics.{Among, passing, any_at, or_split, or_left, or_right, and_split, and_both, cases, test_same, same_if, and_same, apart, each_at, each_from, all_at}
+use Rattle.gt_core.proofs.published.Within.{lawful, literals_within, effects_within, among_at}
 use Rattle.implied_literals.specs.Rows.{clause_in, AreRows, total}
 use Rattle.bit_sets.specs.Rows.{row_has}
 use Rattle.implied_literals.specs.Tested.{AreKnown, ActionFits, AreRowsOf, IsSetOf, breaks_by, act_at}
-use Rattle.two_invariants.specs.Losses.{are_lost, IsBroken, AreLosses, AreAllLosses}
-use Rattle.two_invariants.specs.Rounds.{breaks_any, clause_count, IsRound}
+use Rattle.two_invariants.specs.own.Losses.{are_lost, IsBroken, AreLosses, AreAllLosses}
+use Rattle.two_invariants.specs.own.Rounds.{breaks_any, clause_count, IsRound}
 use Rattle.implied_literals.specs.Renewed.{IsTested, IsSettled, WereKnown}
 use Rattle.gt_core.specs.Literal.{opposite}
 use Rattle.implied_literals.specs.declared.known.Known.{Known}
-use Rattle.implied_literals.proofs.Lists.{all_map}
-use Rattle.implied_literals.proofs.Closing.{total_below, total_less}
-use Rattle.implied_literals.proofs.Exact.{row_within, none_within}
-use Rattle.implied_literals.proofs.Steps.{opposite_below}
+use Rattle.implied_literals.proofs.published.Lists.{all_map}
+use Rattle.implied_literals.proofs.published.Closing.{total_below, total_less}
+use Rattle.implied_literals.proofs.published.Exact.{row_within, none_within}
+use Rattle.implied_literals.proofs.published.Steps.{opposite_below}
 use Rattle.std.proofs.lemmas.Bool.{cases_lt}
-use Rattle.gt_core.proofs.Lists.{each_number}
+use Rattle.gt_core.proofs.published.Lists.{each_number}
 
 -- A round drops what some action breaks, and nothing else; where it drops nothing, what is left are the invariants.
 
@@ -49,14 +49,6 @@ fits_at size xs a all lt = each_at (ActionFits size) xs (act_at xs a) all (among
 module _ (facts : ℕ) (known : Known) (clauses : List (List ℕ)) (acts : List Action) (todo : List ℕ) where
   abbrev breaks_at : ℕ → ℕ → ℕ → Bool
   breaks_at i l m = breaks_by facts known (act_at acts (slice_index todo i)) l m
-
-  -- nothing is lost where none was tested
-  pub no_losses : (low high : ℕ) (lost : List (List ℕ)) → high ≤ low → length lost ≡ 2 * facts → ((l m : ℕ) → clause_in lost l m ≡ false) → AreLosses facts known clauses acts todo low high lost
-  no_losses low high lost le long none = record {
-    long = long;
-    only = λ l m t. absurd (apart (clause_in lost l m) t (none l m));
-    all = λ i ge lt within l m v b. absurd (omega (arith, le, ge, lt));
-  }
 
   -- one more action is tested
   pub one_more_action : (low i : ℕ) (old new : List (List ℕ)) → i < length todo → AreLosses facts known clauses acts todo low i old → length new ≡ length old

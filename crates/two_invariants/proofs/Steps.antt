@@ -5,12 +5,12 @@ use Rattle.std.proofs.lemmas.List.{drop_more}
 use Rattle.std.proofs.lemmas.Bool.{cases_lt, lt-ltb, ltb-true, le-ltb}
 use Rattle.bit_sets.specs.Rows.{row_has}
 use Rattle.gt_core.specs.Literal.{opposite, holds}
-use Rattle.gt_core.proofs.Basics.{passing, or_split, and_split, same_test, test_same, same_if}
-use Rattle.gt_core.proofs.Literals.{opposite_twice}
+use Rattle.gt_core.proofs.published.Basics.{passing, or_split, and_split, same_test, test_same, same_if}
+use Rattle.gt_core.proofs.published.Literals.{opposite_twice}
 use Rattle.implied_literals.specs.Rows.{row_at, clause_in, AreRows}
 use Rattle.implied_literals.specs.Tested.{IsSetOf, AreRowsOf, with_more}
-use Rattle.two_invariants.specs.First.{is_first}
-use Rattle.implied_literals.proofs.Steps.{past_rows}
+use Rattle.two_invariants.specs.own.First.{is_first}
+use Rattle.implied_literals.proofs.published.Steps.{past_rows}
 
 -- What the loops and branches of the code need.
 

@@ -3,11 +3,11 @@ use Rattle.std.specs.Prelude.{nat_lt, if◌then◌else◌}
 use Rattle.std.proofs.lemmas.Bool.Decides.{nat_tests}
 use Rattle.gt_core.specs.Literal.{opposite, holds}
 use Rattle.gt_core.specs.Task.{Task, initial_state}
-use Rattle.gt_core.proofs.Basics.{and_split, and_both, not_true, not_false, not_split, same_test, test_same, apart, same_if}
-use Rattle.gt_core.proofs.Literals.{half_opposite}
+use Rattle.gt_core.proofs.published.Basics.{and_split, and_both, not_true, not_false, not_split, same_test, test_same, apart, same_if}
+use Rattle.gt_core.proofs.published.Literals.{half_opposite}
 use Rattle.implied_literals.specs.Rows.{clause_in}
-use Rattle.two_invariants.specs.First.{is_first}
-use Rattle.two_invariants.specs.Greatest.{Surrounds}
+use Rattle.two_invariants.specs.own.First.{is_first}
+use Rattle.two_invariants.specs.own.Greatest.{Surrounds}
 use Rattle.std.proofs.lemmas.Bool.{lt-ltb}
 use Rattle.two_invariants.proofs.Steps.{opposite_test}
 

@@ -3,11 +3,11 @@ use Rattle.std.specs.Prelude.{slice_get}
 use Rattle.std.specs.List.{list_all, AllByRecursion}
 use Rattle.bit_sets.specs.Rows.{row_has}
 use Rattle.gt_core.specs.Literal.{opposite}
-use Rattle.gt_core.proofs.Basics.{and_split, and_both, each_at}
+use Rattle.gt_core.proofs.published.Basics.{and_split, and_both, each_at}
 use Rattle.implied_literals.specs.Breaks.{is_add}
 use Rattle.implied_literals.specs.Tested.{with_more, has_no_pair}
-use Rattle.two_invariants.specs.Groups.{group_with, may_take_by, may_lose, GroupFits}
-use Rattle.two_invariants.specs.Index.{takes_in}
+use Rattle.two_invariants.specs.own.Groups.{group_with, may_take_by, may_lose, GroupFits}
+use Rattle.two_invariants.specs.own.Index.{takes_in}
 use Rattle.two_invariants.specs.declared.groups.Group.{Group}
 use Rattle.two_invariants.proofs.Indexing.{from_place, among_place}
 

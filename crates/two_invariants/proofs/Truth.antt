@@ -5,13 +5,13 @@ use Rattle.gt_core.specs.Task.{Effect, Action, Task, action, initial_state}
 use Rattle.gt_core.specs.Active.{is_active}
 use Rattle.gt_core.specs.Execution.{action_makes, action_gains, action_loses, next_of_one, CanRun, run}
 use Rattle.gt_core.specs.Interference.{has_clause, Knows}
-use Rattle.gt_core.proofs.Basics.{Among, passing, any_at, or_split, or_left, or_right, or_none, and_split, and_both, apart, cases, same_test, test_same, each_from, all_at}
-use Rattle.gt_core.proofs.Literals.{opposite_holds, holds_add, holds_delete, add_opposite, delete_opposite, delete_is_odd}
+use Rattle.gt_core.proofs.published.Basics.{Among, passing, any_at, or_split, or_left, or_right, or_none, and_split, and_both, apart, cases, same_test, test_same, each_from, all_at}
+use Rattle.gt_core.proofs.published.Literals.{opposite_holds, holds_add, holds_delete, add_opposite, delete_opposite, delete_is_odd}
 use Rattle.implied_literals.specs.Known.{IsFull, IsKnown, AllKnown}
 use Rattle.implied_literals.specs.Breaks.{AnyByRecursion, is_add, Takes, Loses, Gives, Sure, BreaksBy, Breaks}
 use Rattle.two_invariants.specs.Closed.{IsClosed}
 use Rattle.two_invariants.specs.Laws.{InvariantsHold}
-use Rattle.implied_literals.proofs.Lists.{any_from}
+use Rattle.implied_literals.proofs.published.Lists.{any_from}
 
 -- Each clause of a closed set holds in every state that a sequence of actions reaches.
 

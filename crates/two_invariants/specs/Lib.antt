@@ -1,13 +1,3 @@
 pub mod Closed
 pub mod Laws
-pub mod Listed
-pub mod Greatest
-pub mod Losses
-pub mod Groups
-pub mod Numbers
-pub mod Plain
-pub mod Index
-pub mod Before
-pub mod First
-pub mod Rounds
-pub mod Harmless
+pub mod own

@@ -8,9 +8,9 @@ ghost use Rattle.gt_core.specs.Literal.{opposite};
 ghost use Rattle.implied_literals.specs.Rows.{clause_in, AreRows};
 ghost use Rattle.implied_literals.specs.Breaks.{is_add};
 ghost use Rattle.implied_literals.specs.Tested.{with_more, ActionFits, IsSetOf, AreRowsOf, breaks_by};
-ghost use Rattle.two_invariants.specs.Groups.{group_with, breaks_under, GroupFits};
-ghost use Rattle.two_invariants.specs.Index.{IsGroupOf, AreGivers, AreTakers};
-ghost use Rattle.two_invariants.specs.Before.{IsBefore};
+ghost use Rattle.two_invariants.specs.own.Groups.{group_with, breaks_under, GroupFits};
+ghost use Rattle.two_invariants.specs.own.Index.{IsGroupOf, AreGivers, AreTakers};
+ghost use Rattle.two_invariants.specs.own.Before.{IsBefore};
 
 use crate::givers::{Givers, fill_given, givers_of};
 use crate::groups::{Group, group_effects};

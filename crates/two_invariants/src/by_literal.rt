@@ -3,7 +3,7 @@
 ghost use Rattle.std.specs.Prelude.{◌≡◌, ℕ, ◌<◌, true, length, IfOk, OnOk};
 ghost use Rattle.bit_sets.specs.Rows.{row_has};
 ghost use Rattle.implied_literals.specs.Tested.{IsSetOf};
-ghost use Rattle.two_invariants.specs.Numbers.{numbers_for, has_number, finds, FindsMore};
+ghost use Rattle.two_invariants.specs.own.Numbers.{numbers_for, has_number, finds, FindsMore};
 
 use bit_sets::row::BitRow;
 use std::alloc::{AllocError, Global};

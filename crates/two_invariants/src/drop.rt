@@ -5,7 +5,7 @@ ghost use Rattle.bit_sets.specs.Rows.{row_has, room};
 ghost use Rattle.gt_core.specs.Literal.{opposite};
 ghost use Rattle.implied_literals.specs.Rows.{clause_in, row_at};
 ghost use Rattle.implied_literals.specs.Tested.{IsSetOf};
-ghost use Rattle.two_invariants.specs.Losses.{IsDropped};
+ghost use Rattle.two_invariants.specs.own.Losses.{IsDropped};
 
 use bit_sets::row::BitRow;
 use gt_core::lits::opposite;

@@ -4,7 +4,7 @@ ghost use Rattle.std.specs.Prelude.{◌≡◌, ℕ, ◌*◌, ◌/◌, ◌<◌, �
 ghost use Rattle.bit_sets.specs.Rows.{row_has};
 ghost use Rattle.gt_core.specs.Literal.{opposite, holds, state_of};
 ghost use Rattle.implied_literals.specs.Rows.{clause_in, AreRows};
-ghost use Rattle.two_invariants.specs.First.{is_first};
+ghost use Rattle.two_invariants.specs.own.First.{is_first};
 
 use bit_sets::row::BitRow;
 use gt_core::lits::opposite;

@@ -3,11 +3,11 @@
 
 ghost use Rattle.std.specs.Prelude.{◌≡◌, ℕ, ◌<◌, ◌==◌, ◌&&◌, ◌||◌, ◌⊎◌, true, None, length, IfOk, IfSome, OnOk};
 ghost use Rattle.implied_literals.specs.Rows.{IsPart};
-ghost use Rattle.two_invariants.specs.Index.{IsNumbered, gives_in, IsGiver, AreGivers};
+ghost use Rattle.two_invariants.specs.own.Index.{IsNumbered, gives_in, IsGiver, AreGivers};
 ghost use Rattle.bit_sets.specs.Rows.{row_has};
-ghost use Rattle.two_invariants.specs.Groups.{group_with};
+ghost use Rattle.two_invariants.specs.own.Groups.{group_with};
 ghost use Rattle.implied_literals.specs.Tested.{IsSetOf};
-ghost use Rattle.two_invariants.specs.Numbers.{FindsMore};
+ghost use Rattle.two_invariants.specs.own.Numbers.{FindsMore};
 ghost use Rattle.std.specs.List.{list_any, list_all};
 
 use crate::by_literal::{ByLiteral, add_number, list_of, no_numbers};

@@ -7,7 +7,7 @@ ghost use Rattle.bit_sets.specs.Rows.{row_has};
 ghost use Rattle.two_invariants.specs.Closed.{AreInvariants};
 ghost use Rattle.implied_literals.specs.Rows.{clause_in, AreRows};
 ghost use Rattle.gt_core.specs.Reached.{HoldsWherever};
-ghost use Rattle.two_invariants.specs.Greatest.{AreGreatest};
+ghost use Rattle.two_invariants.specs.own.Greatest.{AreGreatest};
 ghost use Rattle.implied_literals.specs.Renewed.{asks};
 ghost use Rattle.gt_core.specs.Literal.{opposite};
 
@@ -15,7 +15,7 @@ use crate::first::first_clauses;
 use crate::list::list_clauses;
 use crate::round::drop_broken;
 use bit_sets::row::BitRow;
-use gt_core::memory::Memory;
+use containers::memory::Memory;
 use gt_core::pairs::Pairs;
 use gt_core::task::Task;
 use implied_literals::again::{first_known, prepare};

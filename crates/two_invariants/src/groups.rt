@@ -5,7 +5,7 @@ ghost use Rattle.std.specs.List.{AllByRecursion};
 ghost use Rattle.bit_sets.specs.Rows.{row_has};
 ghost use Rattle.gt_core.specs.Literal.{opposite};
 ghost use Rattle.implied_literals.specs.Tested.{EffectFits};
-ghost use Rattle.two_invariants.specs.Groups.{effect_with, group_with, GroupFits};
+ghost use Rattle.two_invariants.specs.own.Groups.{effect_with, group_with, GroupFits};
 
 use crate::by_literal::{add_at_key, list_of, no_lists};
 use bit_sets::row::BitRow;

@@ -6,9 +6,9 @@ ghost use Rattle.std.specs.List.{AllByRecursion};
 ghost use Rattle.bit_sets.specs.Rows.{row_has};
 ghost use Rattle.implied_literals.specs.Rows.{clause_in, AreRows};
 ghost use Rattle.implied_literals.specs.Tested.{IsSetOf, EffectFits};
-ghost use Rattle.two_invariants.specs.Plain.{has_opposite};
-ghost use Rattle.two_invariants.specs.Index.{IsFirm};
-ghost use Rattle.two_invariants.specs.Harmless.{IsKept};
+ghost use Rattle.two_invariants.specs.own.Plain.{has_opposite};
+ghost use Rattle.two_invariants.specs.own.Index.{IsFirm};
+ghost use Rattle.two_invariants.specs.own.Harmless.{IsKept};
 
 use crate::groups::Group;
 use crate::takers::{Room, Takers};

@@ -4,10 +4,10 @@ ghost use Rattle.std.specs.Prelude.{◌≡◌, ℕ, ◌*◌, ◌<◌, ◌≤◌,
 ghost use Rattle.bit_sets.specs.Rows.{row_has};
 ghost use Rattle.gt_core.specs.{Literal.opposite, Interference.has_clause, Clauses.IsKnownClauses};
 ghost use Rattle.implied_literals.specs.Rows.{clause_in, AreRows};
-ghost use Rattle.two_invariants.specs.Listed.{is_from};
+ghost use Rattle.two_invariants.specs.own.Listed.{is_from};
 
 use bit_sets::row::BitRow;
-use gt_core::memory::Memory;
+use containers::memory::Memory;
 use gt_core::pairs::Pairs;
 use std::alloc::Global;
 

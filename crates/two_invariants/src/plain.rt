@@ -8,7 +8,7 @@ ghost use Rattle.gt_core.specs.Literal.{opposite};
 ghost use Rattle.implied_literals.specs.Breaks.{is_add};
 ghost use Rattle.implied_literals.specs.Rows.{clause_in, AreRows};
 ghost use Rattle.implied_literals.specs.Tested.{EffectFits};
-ghost use Rattle.two_invariants.specs.Plain.{adds_plainly, takes_plainly, breaks_plainly};
+ghost use Rattle.two_invariants.specs.own.Plain.{adds_plainly, takes_plainly, breaks_plainly};
 
 use crate::broken::add_loss;
 use crate::takers::take_one;

@@ -7,8 +7,8 @@ ghost use Rattle.gt_core.specs.Literal.{opposite};
 ghost use Rattle.implied_literals.specs.Rows.{clause_in, AreRows};
 ghost use Rattle.implied_literals.specs.Tested.{AreKnown};
 ghost use Rattle.implied_literals.specs.Renewed.{IsTested};
-ghost use Rattle.two_invariants.specs.Losses.{are_lost, AreLosses, AreAllLosses, CanTest, IsDropped};
-ghost use Rattle.two_invariants.specs.Rounds.{IsRound};
+ghost use Rattle.two_invariants.specs.own.Losses.{are_lost, AreLosses, AreAllLosses, CanTest, IsDropped};
+ghost use Rattle.two_invariants.specs.own.Rounds.{IsRound};
 
 use crate::broken::add_losses_of;
 use crate::drop::drop_lost;

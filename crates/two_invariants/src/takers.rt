@@ -7,10 +7,10 @@ ghost use Rattle.gt_core.specs.Literal.{opposite};
 ghost use Rattle.implied_literals.specs.Breaks.{is_add};
 ghost use Rattle.implied_literals.specs.Rows.{IsPart};
 ghost use Rattle.implied_literals.specs.Tested.{with_more, has_no_pair, IsSetOf};
-ghost use Rattle.two_invariants.specs.Groups.{GroupFits};
-ghost use Rattle.two_invariants.specs.Numbers.{has_number, finds, FindsMore};
-ghost use Rattle.two_invariants.specs.Index.{IsNumbered, IsGroupOf, IsTaker, AreTakers};
-ghost use Rattle.two_invariants.specs.Before.{IsBefore, IsHere, takes_here, loses_here};
+ghost use Rattle.two_invariants.specs.own.Groups.{GroupFits};
+ghost use Rattle.two_invariants.specs.own.Numbers.{has_number, finds, FindsMore};
+ghost use Rattle.two_invariants.specs.own.Index.{IsNumbered, IsGroupOf, IsTaker, AreTakers};
+ghost use Rattle.two_invariants.specs.own.Before.{IsBefore, IsHere, takes_here, loses_here};
 
 use crate::by_literal::{ByLiteral, add_to_all, list_of, no_numbers};
 use crate::givers::{Givers, fill_given};

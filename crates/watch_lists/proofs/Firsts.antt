@@ -1,13 +1,13 @@
 -- What is asked first, and the number of the clause that asks it.
 use Rattle.std.proofs.Common.{◌≡◌, ℕ, List, [], ◌∷◌, Bool, length, Option, Some, None, refl, sym, ap, ◌∙◌}
 use Rattle.clause_base.specs.Clause.{has_literal}
-use Rattle.cdcl_rules.specs.declared.event.Event.{Event}
-use Rattle.cdcl_rules.specs.Event.{asked}
-use Rattle.cdcl_rules.specs.Pending.{is_pending_in, least_from}
-use Rattle.cdcl_trail.specs.Assignment.{literals}
+use Rattle.cdcl_defs.specs.declared.event.Event.{Event}
+use Rattle.cdcl_defs.specs.Event.{asked}
+use Rattle.cdcl_defs.specs.Pending.{is_pending_in, least_from}
+use Rattle.cdcl_tables.specs.Assignment.{literals}
 use Rattle.propagation.specs.Front.{asked_at, first_asked}
 use Rattle.propagation.specs.Pending.{PropagatorView}
-use Rattle.watch_lists.specs.First.{number_in}
+use Rattle.watch_lists.specs.own.First.{number_in}
 
 asked_number : (n : ℕ) (xs : List ℕ) → number_in (asked n xs) ≡ Some n
 asked_number n [] = refl

@@ -3,16 +3,16 @@ use Rattle.std.proofs.Common.{arith, ◌≡◌, ◌==◌, ℕ, ◌+◌, ◌<◌,
 use Rattle.std.proofs.Common.{length-set, get_or-set_same, get_or-set_other}
 use Rattle.std.proofs.lemmas.List.{length_push, length-replicate, length-take-le, take_all, take-append-le, take-take}
 use Rattle.clause_base.specs.Clause.{has_literal}
-use Rattle.cdcl_rules.specs.declared.trail.Assigned.{Assigned}
-use Rattle.cdcl_rules.specs.Pending.{is_pending_in}
-use Rattle.cdcl_trail.specs.Assignment.{literals}
+use Rattle.cdcl_defs.specs.declared.trail.Assigned.{Assigned}
+use Rattle.cdcl_defs.specs.Pending.{is_pending_in}
+use Rattle.cdcl_tables.specs.Assignment.{literals}
 use Rattle.propagation.specs.declared.known.Known.{Known}
 use Rattle.propagation.specs.Known.{AreListed}
 use Rattle.propagation.specs.Pending.{PropagatorView}
-use Rattle.propagation.proofs.Adds.{pending_other}
-use Rattle.propagation.proofs.Assigns.{apart_of, equal_of}
-use Rattle.propagation.proofs.Removes.{pending_before}
-use Rattle.watch_lists.specs.Known.{AreKnown, IsKnown, known_at}
+use Rattle.propagation.proofs.published.Adds.{pending_other}
+use Rattle.propagation.proofs.published.Assigns.{apart_of, equal_of}
+use Rattle.propagation.proofs.published.Removes.{pending_before}
+use Rattle.watch_lists.specs.own.Known.{AreKnown, IsKnown, known_at}
 
 -- a length has the same entries on another trail
 same_known : (p : PropagatorView) (entries : List Assigned) (n : ℕ) (k : Known) → take n entries ≡ take n p.entries → IsKnown p n k

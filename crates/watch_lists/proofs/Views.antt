@@ -4,10 +4,10 @@ use Rattle.std.proofs.lemmas.Bool.Decides.{nat_tests}
 use Rattle.std.proofs.lemmas.List.{map_push, take-map}
 use Rattle.clause_base.specs.Literal.{opposite}
 use Rattle.clause_base.specs.Clause.{has_literal}
-use Rattle.cdcl_rules.specs.declared.trail.Assigned.{Assigned}
-use Rattle.cdcl_rules.specs.State.{is_on, value_of}
-use Rattle.cdcl_trail.specs.Assignment.{literals}
-use Rattle.cdcl_trail.proofs.Assignments.{has_is}
+use Rattle.cdcl_defs.specs.declared.trail.Assigned.{Assigned}
+use Rattle.cdcl_defs.specs.State.{is_on, value_of}
+use Rattle.cdcl_tables.specs.Assignment.{literals}
+use Rattle.cdcl_tables.proofs.published.Assignments.{has_is}
 use Rattle.propagation.specs.Pending.{PropagatorView}
 use Rattle.watch_lists.specs.Pending.{WatchesView, without_reasons}
 

@@ -1,3 +1,2 @@
 pub mod Pending
-pub mod First
-pub mod Known
+pub mod own

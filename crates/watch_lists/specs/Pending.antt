@@ -1,6 +1,6 @@
 -- Clauses on a trail as their clients see them.
 use Rattle.std.specs.Prelude.{ℕ, List, Bool}
-use Rattle.cdcl_trail.specs.Assignment.{literals}
+use Rattle.cdcl_tables.specs.Assignment.{literals}
 use Rattle.propagation.specs.Pending.{PropagatorView}
 
 -- the clauses by number, which of them are kept, and the literals that are true, oldest first

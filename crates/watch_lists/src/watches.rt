@@ -2,16 +2,16 @@
 ghost use Rattle.std.specs.Prelude.{◌≡◌, ℕ, ◌+◌, ◌*◌, ◌<◌, ◌≤◌, ◌++◌, ◌∷◌, [], take, length, replicate, true, false, slice_set, slice_index_or, IfOk, OnOk, OnErr, MatchOption};
 ghost use Rattle.clause_base.specs.Literal.{opposite};
 ghost use Rattle.clause_base.specs.Clause.{IsClause, has_literal, HasVariablesBelow};
-ghost use Rattle.cdcl_rules.specs.State.{clause_at};
-ghost use Rattle.cdcl_rules.specs.Pending.{is_pending_in, least_from, open_ones};
-ghost use Rattle.watch_lists.specs.First.{number_in};
+ghost use Rattle.cdcl_defs.specs.State.{clause_at};
+ghost use Rattle.cdcl_defs.specs.Pending.{is_pending_in, least_from, open_ones};
+ghost use Rattle.watch_lists.specs.own.First.{number_in};
 
-use cdcl_rules::event::Event;
-use cdcl_rules::trail::Assigned;
+use cdcl_defs::event::Event;
+use cdcl_defs::trail::Assigned;
 use clause_base::clause::Clause;
 use clause_base::formula::Formula;
 use clause_base::literal::Lit;
-use clause_base::memory::Memory;
+use containers::memory::Memory;
 use containers::{SharedListOf, let_go};
 use propagation::known::Known;
 use propagation::propagator::Propagator;
@@ -32,9 +32,9 @@ pub struct Watches {
 impl Model for Watches {
     ghost use Rattle.std.specs.Prelude.{◌≡◌, ◌*◌};
     ghost use Rattle.clause_base.specs.Clause.{has_literal};
-    ghost use Rattle.cdcl_trail.specs.Assignment.{literals};
+    ghost use Rattle.cdcl_tables.specs.Assignment.{literals};
     ghost use Rattle.propagation.specs.Front.{first_asked};
-    ghost use Rattle.watch_lists.specs.Known.{AreKnown};
+    ghost use Rattle.watch_lists.specs.own.Known.{AreKnown};
     ghost use Rattle.watch_lists.specs.Pending.{WatchesView, without_reasons};
 
     ghost Value = { WatchesView };
@@ -46,7 +46,7 @@ impl Model for Watches {
     ghost invariant = { λ w. (w.first ≡ first_asked w.propagator.clauses w.propagator.kept (has_literal (literals w.propagator.entries))) × AreKnown w.propagator w.known.items };
 }
 
-/// Letting one go is one call, in which its parts go: whoever holds one proves one step.
+/// All parts are let go in one call, so that a proof has one step for it and not one for each part.
 impl Drop for Watches {
     fn drop(self) {
         let_go!(self: Watches {

@@ -2,8 +2,8 @@
 ghost use Rattle.std.specs.Prelude.{◌≤◌};
 
 use super::holding::{holds, is, is_same};
-use proof_text::laws::laws;
-use proof_text::{Proof, ProofFault, proof_length, read_proof, write_proof, written};
+use proof_log::laws::laws;
+use proof_log::{Proof, ProofFault, proof_length, read_proof, write_proof, written};
 use std::alloc::Global;
 
 /// Bytes, and where they go wrong, if they do.

@@ -4,9 +4,9 @@ use super::holding::holds;
 use super::tasks::{Sketch, task_of};
 use clause_base::chooser::Chooser;
 use clause_base::values::Values;
+use formula_defs::layout::Layout;
 use goal_choice::GoalChooser;
 use gt_core::task::Task;
-use horizon_formula::layout::Layout;
 use std::alloc::Global;
 use std::process::Abort;
 

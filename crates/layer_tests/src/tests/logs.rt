@@ -3,9 +3,9 @@ use super::holding::{holds, is};
 use clause_base::clause::Clause;
 use clause_base::literal::Lit;
 use clause_base::log::{Entry, Hints};
-use clause_log::log::Log;
-use clause_log::numbers::Numbers;
-use clause_log::reader::Step;
+use proof_log::log::Log;
+use proof_log::numbers::Numbers;
+use proof_log::reader::Step;
 use std::alloc::Global;
 use std::process::Abort;
 

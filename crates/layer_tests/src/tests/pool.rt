@@ -11,7 +11,7 @@ use std::alloc::Global;
 use std::process::Abort;
 use std::sync::Wait;
 use std::thread::Threads;
-use test_doubles::gates::{CountGate, PairGate};
+use test_kit::gates::{CountGate, PairGate};
 
 /// A job of a run that counts: its horizon, the units that it needs, and its target.
 type Row = (u32, u64, u16);

@@ -8,7 +8,7 @@ use std::alloc::Global;
 use std::process::Abort;
 use std::sync::Wait;
 use std::thread::Threads;
-use test_doubles::gates::Notes;
+use test_kit::gates::Notes;
 
 /// A run that counts, and tells of each time that it is advanced.
 #[derive(Drop)]

@@ -1,5 +1,5 @@
 use Rattle.std.proofs.lemmas.Result.{err_from_is_err_and}
-use Rattle.pd_sexp.specs.Reader.{state_of}
+use Rattle.pd_sexp.specs.own.Reader.{state_of}
 use Rattle.pd_sexp.proofs.Verdicts.{Reached-step}
 use Rattle.pd_sexp.proofs.Judged.{Judged, from_step, from_end, read_of, syntax_of, deep_of}
 use Rattle.pd_sexp.proofs.WordLaw.{words_of}

@@ -1,4 +1,4 @@
-use Rattle.pd_sexp.specs.Reader.{state_of}
+use Rattle.pd_sexp.specs.own.Reader.{state_of}
 use Rattle.pd_sexp.proofs.Verdicts.{Reached}
 use Rattle.pd_sexp.proofs.read_tree.Given as goal
 

@@ -1,6 +1,6 @@
 use Rattle.std.proofs.Common.{sym, ◌∙◌}
 use Rattle.pd_sexp.specs.View.{view}
-use Rattle.pd_task.specs.Tables.{domain_of}
+use Rattle.pd_task.specs.own.Tables.{domain_of}
 use Rattle.pd_task.proofs.Formed.{read_formed}
 use Rattle.pd_task.proofs.read_pddl.Goals as goal
 

@@ -7,7 +7,7 @@ use std::random::RandomSource;
 use std::sync::Wait;
 use std::sync::atomic::{AtomicU64, Ordering};
 use std::thread::Threads;
-use test_doubles::Counting;
+use test_kit::Counting;
 
 const FILES: [Named<'static>; 2] = [("d", BLOCKS), ("p", TOWER)];
 

@@ -8,7 +8,7 @@ use std::alloc::{AllocGlobal, Global};
 use std::process::Abort;
 use std::sync::Wait;
 use std::thread::Threads;
-use test_doubles::gates::{CountGate, Notes, PairGate};
+use test_kit::gates::{CountGate, Notes, PairGate};
 
 /// A file's name and its bytes.
 pub(crate) type Named<'a> = (&'a str, &'a [u8]);
@@ -83,7 +83,7 @@ pub(crate) struct TurnNotes {
     pub(crate) pair: PairGate,
 }
 
-/// Letting one go is one call, in which its parts go: whoever holds one proves one step.
+/// All parts are let go in one call, so that a proof has one step for it and not one for each part.
 impl Drop for TurnNotes {
     fn drop(self) {
         let_go!(self: TurnNotes { count, notes, pair });

@@ -10,7 +10,7 @@ use gt_core::task::Task;
 use horizon_rates::{Algorithm, Rates};
 use poll_batch::{BlockOn, Driver, NoDriver, PollRace, Races, batch_race};
 use race::RaceError;
-use race_end::{Line, LineEnd, RaceEnd};
+use race_outcome::{Line, LineEnd, RaceEnd};
 use std::alloc::{AllocGlobal, Global};
 use std::process::Abort;
 use std::random::RandomSource;

@@ -4,7 +4,7 @@ ghost use Rattle.std.specs.Prelude.{◌≤◌};
 
 use super::lamps::lamp_run;
 use super::seen::{Seen, holds};
-use cdcl_rules::standing::Standing;
+use cdcl_defs::standing::Standing;
 use poll_run::{BlockOn, settle};
 use solver_pool::{Job, Jobs, OpenGate, Resume, round};
 use std::alloc::{AllocGlobal, Global};

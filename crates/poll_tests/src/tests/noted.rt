@@ -7,8 +7,8 @@ use super::batches::{end_over, race_of, two_of};
 use super::lamps::{Ground, form_of, grounded};
 use super::seen::holds;
 use clause_base::formula::Formula;
-use clause_base::memory::Memory;
-use horizon_formula::layout::Layout;
+use containers::memory::Memory;
+use formula_defs::layout::Layout;
 use poll_batch::BlockOn;
 use std::alloc::{AllocGlobal, Global};
 use std::process::Abort;
@@ -17,7 +17,7 @@ use std::sync::Wait;
 use std::thread::Threads;
 use step_encoding::form::{FormError, StepForm};
 use step_encoding::steps::Steps;
-use test_doubles::gates::Notes;
+use test_kit::gates::Notes;
 
 /// A form under a number, and what notes that number where its formula is asked for.
 #[derive(Drop)]

@@ -1,7 +1,7 @@
 //! What is seen of the run of a horizon of a lamp that is off.
 ghost use Rattle.std.specs.Prelude.{◌≡◌};
 
-use cdcl_rules::standing::Standing;
+use cdcl_defs::standing::Standing;
 use horizon_run::{AheadRun, Started};
 use solver_pool::Resume;
 use std::alloc::Global;

@@ -1,5 +1,5 @@
-use Rattle.report_lines.proofs.ReadBack.{read_back, fronts}
-use Rattle.report_lines.proofs.Entries.{entries_said}
+use Rattle.report_lines.proofs.published.ReadBack.{read_back, fronts}
+use Rattle.report_lines.proofs.published.Entries.{entries_said}
 use Rattle.report_lines.proofs.laws.Goals as goal
 
 pub returns-clause-read_back : goal.returns-clause-read_back

@@ -3,7 +3,7 @@ use Rattle.std.proofs.Math.Bool.{or_assoc}
 use Rattle.std.proofs.lemmas.List.{get_or_read}
 use Rattle.bit_sets.specs.Rows.{row_has}
 use Rattle.gt_core.specs.Literal.{opposite}
-use Rattle.action_order.specs.Graph.{row_at}
+use Rattle.action_order.specs.own.Graph.{row_at}
 use Rattle.action_order.proofs.ReadersLaw.{opposite_below}
 use Rattle.action_order.proofs.edges.add_readers.Goals as goal
 

@@ -2,7 +2,7 @@ use Rattle.std.proofs.Common.{◌||◌, ◌+◌, Bool, ℕ, drop, ap, sym, ◌�
 use Rattle.std.proofs.Math.Bool.{or_assoc}
 use Rattle.bit_sets.specs.Rows.{row_has}
 use Rattle.gt_core.specs.Task.{Effect}
-use Rattle.action_order.specs.Edges.{is_reader, is_touched}
+use Rattle.action_order.specs.own.Edges.{is_reader, is_touched}
 use Rattle.action_order.proofs.GrowLaw.{any_left}
 use Rattle.action_order.proofs.edges.add_touched.Goals as goal
 

@@ -1,6 +1,6 @@
 use Rattle.std.proofs.Common.{◌≡◌, ◌||◌, ℕ, drop}
 use Rattle.bit_sets.specs.Rows.{row_has}
-use Rattle.action_order.specs.Edges.{is_touched}
+use Rattle.action_order.specs.own.Edges.{is_touched}
 use Rattle.action_order.proofs.edges.add_touched.Given as goal
 
 abbrev pub invariant-loop-effect : goal.invariant-loop-effect

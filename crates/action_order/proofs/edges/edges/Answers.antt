@@ -1,8 +1,8 @@
 use Rattle.std.proofs.Common.{◌≡◌, ◌+◌, ℕ, List, sym, ap, ◌∙◌, subst}
 use Rattle.std.proofs.lemmas.List.{length_push}
 use Rattle.bit_sets.specs.Rows.{row_has}
-use Rattle.action_order.specs.Edges.{edge_in, AreEdges}
-use Rattle.gt_core.proofs.Lists.{pushed_each}
+use Rattle.action_order.specs.own.Edges.{edge_in, AreEdges}
+use Rattle.gt_core.proofs.published.Lists.{pushed_each}
 use Rattle.action_order.proofs.edges.edges.Goals as goal
 
 pub loop-a-preserved : goal.loop-a-preserved

@@ -1,4 +1,4 @@
-use Rattle.action_order.specs.Edges.{AreEdges}
+use Rattle.action_order.specs.own.Edges.{AreEdges}
 use Rattle.action_order.proofs.edges.edges.Given as goal
 
 abbrev pub invariant-loop-a : goal.invariant-loop-a

@@ -2,10 +2,10 @@ use Rattle.std.proofs.Common.{arith, ◌≡◌, ◌<◌, ℕ, List, [], length, 
 use Rattle.std.specs.List.{AllByRecursion}
 use Rattle.std.proofs.lemmas.List.{get_or_read}
 use Rattle.gt_core.specs.Literal.{is_in}
-use Rattle.gt_core.proofs.Lists.{each_number}
-use Rattle.action_order.specs.Graph.{row_at}
-use Rattle.action_order.specs.Readers.{IsEntered, AreRowsOf}
-use Rattle.action_order.specs.Edges.{surely}
+use Rattle.gt_core.proofs.published.Lists.{each_number}
+use Rattle.action_order.specs.own.Graph.{row_at}
+use Rattle.action_order.specs.own.Readers.{IsEntered, AreRowsOf}
+use Rattle.action_order.specs.own.Edges.{surely}
 use Rattle.action_order.proofs.ReadersLaw.{none_entered, entered_more}
 use Rattle.action_order.proofs.edges.find_makers.Goals as goal
 use Rattle.action_order.proofs.edges.find_makers.Goals.{After-as_slice}

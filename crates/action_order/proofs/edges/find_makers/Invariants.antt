@@ -1,5 +1,5 @@
-use Rattle.action_order.specs.Readers.{AreRowsOf}
-use Rattle.action_order.specs.Edges.{surely}
+use Rattle.action_order.specs.own.Readers.{AreRowsOf}
+use Rattle.action_order.specs.own.Edges.{surely}
 use Rattle.action_order.proofs.edges.find_makers.Given as goal
 
 abbrev pub invariant-loop-b : goal.invariant-loop-b

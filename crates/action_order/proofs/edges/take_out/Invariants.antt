@@ -1,6 +1,6 @@
 use Rattle.std.proofs.Common.{◌≡◌, ◌&&◌, ℕ, not, drop}
 use Rattle.bit_sets.specs.Rows.{row_has}
-use Rattle.action_order.specs.Edges.{is_in_rows}
+use Rattle.action_order.specs.own.Edges.{is_in_rows}
 use Rattle.action_order.proofs.edges.take_out.Given as goal
 
 abbrev pub invariant-loop-lit : goal.invariant-loop-lit

@@ -2,8 +2,8 @@ use Rattle.std.proofs.Common.{◌<◌, ◌+◌, ◌*◌, ◌&&◌, not, ◌∙�
 use Rattle.std.specs.List.{list_any}
 use Rattle.std.proofs.lemmas.List.{get_or_read, at_drop_more}
 use Rattle.bit_sets.specs.Rows.{row_has}
-use Rattle.gt_core.proofs.Lists.{each_number}
-use Rattle.action_order.specs.Graph.{row_at, item}
+use Rattle.gt_core.proofs.published.Lists.{each_number}
+use Rattle.action_order.specs.own.Graph.{row_at, item}
 use Rattle.action_order.proofs.GrowLaw.{less_both}
 use Rattle.gt_core.specs.Literal.{opposite}
 use Rattle.action_order.proofs.ReadersLaw.{opposite_below}

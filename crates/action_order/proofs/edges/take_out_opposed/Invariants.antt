@@ -1,6 +1,6 @@
 use Rattle.std.proofs.Common.{◌≡◌, ◌&&◌, ℕ, not, drop}
 use Rattle.bit_sets.specs.Rows.{row_has}
-use Rattle.action_order.specs.Edges.{is_opposed}
+use Rattle.action_order.specs.own.Edges.{is_opposed}
 use Rattle.action_order.proofs.edges.take_out_opposed.Given as goal
 
 abbrev pub invariant-loop-lit : goal.invariant-loop-lit

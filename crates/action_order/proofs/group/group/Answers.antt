@@ -1,7 +1,7 @@
 use Rattle.std.proofs.Common.{arith, ◌<◌, [], length, refl, ◌∙◌}
 use Rattle.std.proofs.lemmas.List.{get_or_read, length-set}
-use Rattle.action_order.specs.Graph.{class_at}
-use Rattle.gt_core.proofs.Lists.{each_number}
+use Rattle.action_order.specs.own.Graph.{class_at}
+use Rattle.gt_core.proofs.published.Lists.{each_number}
 use Rattle.action_order.proofs.GroupLaw.{group_more}
 use Rattle.action_order.proofs.group.group.Goals as goal
 

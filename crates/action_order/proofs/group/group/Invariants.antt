@@ -1,6 +1,6 @@
 use Rattle.std.proofs.Common.{◌≡◌, ◌<◌, ℕ, [], length}
 use Rattle.std.specs.Prelude.{slice_index_or}
-use Rattle.action_order.specs.Group.{members_below}
+use Rattle.action_order.specs.own.Group.{members_below}
 use Rattle.action_order.proofs.group.group.Given as goal
 
 abbrev pub invariant-loop-a : goal.invariant-loop-a

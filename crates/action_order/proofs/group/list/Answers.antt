@@ -1,8 +1,8 @@
 use Rattle.std.proofs.Common.{arith, ◌<◌, ◌+◌, ◌++◌, ◌∷◌, [], ◌∙◌, ℕ, List, length, map, drop, ap, sym}
 use Rattle.std.proofs.lemmas.List.{get_or_read, at_drop_more, append_assoc}
-use Rattle.gt_core.proofs.Lists.{each_number}
-use Rattle.action_order.specs.Graph.{item}
-use Rattle.action_order.specs.Group.{members}
+use Rattle.gt_core.proofs.published.Lists.{each_number}
+use Rattle.action_order.specs.own.Graph.{item}
+use Rattle.action_order.specs.own.Group.{members}
 use Rattle.action_order.proofs.group.list.Goals as goal
 
 pub loop-c-preserved : goal.loop-c-preserved

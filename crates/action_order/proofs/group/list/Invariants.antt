@@ -1,5 +1,5 @@
 use Rattle.std.proofs.Common.{◌≡◌, ◌++◌, map, drop}
-use Rattle.action_order.specs.Group.{members}
+use Rattle.action_order.specs.own.Group.{members}
 use Rattle.action_order.proofs.group.list.Given as goal
 
 abbrev pub invariant-loop-c : goal.invariant-loop-c

@@ -1,10 +1,10 @@
 use Rattle.std.proofs.Common.{arith, ◌≡◌, ◌<◌, ℕ, length, sym, ◌∙◌, subst, rules, List, ap}
 use Rattle.std.specs.List.{AllByRecursion}
-use Rattle.gt_core.proofs.Literals.{in_among}
-use Rattle.gt_core.proofs.Basics.{each_at}
-use Rattle.action_order.specs.Graph.{class_at, IsClassed, item}
-use Rattle.action_order.specs.Quotient.{IsQuotient, AreNames}
-use Rattle.action_order.specs.Sorting.{IsTopologicalOrder}
+use Rattle.gt_core.proofs.published.Literals.{in_among}
+use Rattle.gt_core.proofs.published.Basics.{each_at}
+use Rattle.action_order.specs.own.Graph.{class_at, IsClassed, item}
+use Rattle.action_order.specs.own.Quotient.{IsQuotient, AreNames}
+use Rattle.action_order.specs.own.Sorting.{IsTopologicalOrder}
 use Rattle.action_order.proofs.SortingLaw.{taken_below}
 use Rattle.action_order.proofs.QuotientLaw.{named_components}
 use Rattle.action_order.proofs.OrderLaw.{each_below, few_roots}

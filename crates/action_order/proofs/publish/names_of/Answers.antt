@@ -1,7 +1,7 @@
 use Rattle.std.proofs.Common.{◌<◌, ◌+◌, ◌++◌, ◌∷◌, [], ◌∙◌, ℕ, List, length, map, drop, ap, sym}
 use Rattle.std.proofs.lemmas.List.{at_drop_more, append_assoc}
-use Rattle.gt_core.proofs.Lists.{each_number}
-use Rattle.action_order.specs.Graph.{item}
+use Rattle.gt_core.proofs.published.Lists.{each_number}
+use Rattle.action_order.specs.own.Graph.{item}
 use Rattle.action_order.proofs.publish.names_of.Goals as goal
 
 pub bounds-names-number : goal.bounds-names-number

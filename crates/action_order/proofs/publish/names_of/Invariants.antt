@@ -1,5 +1,5 @@
 use Rattle.std.proofs.Common.{◌≡◌, ◌++◌, map, drop}
-use Rattle.action_order.specs.Graph.{item}
+use Rattle.action_order.specs.own.Graph.{item}
 use Rattle.action_order.proofs.publish.names_of.Given as goal
 
 abbrev pub invariant-loop-number : goal.invariant-loop-number

@@ -1,7 +1,7 @@
 use Rattle.std.proofs.Common.{arith, ◌∙◌}
 use Rattle.std.proofs.lemmas.List.{length-set}
-use Rattle.action_order.specs.Graph.{item}
-use Rattle.gt_core.proofs.Lists.{each_number}
+use Rattle.action_order.specs.own.Graph.{item}
+use Rattle.gt_core.proofs.published.Lists.{each_number}
 use Rattle.action_order.proofs.OrderLaw.{placed_more}
 use Rattle.action_order.proofs.publish.places_of.Goals as goal
 

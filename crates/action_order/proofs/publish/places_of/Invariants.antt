@@ -1,5 +1,5 @@
 use Rattle.std.proofs.Common.{◌≡◌, ◌<◌, ℕ, length}
-use Rattle.action_order.specs.Graph.{item}
+use Rattle.action_order.specs.own.Graph.{item}
 use Rattle.action_order.proofs.publish.places_of.Given as goal
 
 abbrev pub invariant-loop-p : goal.invariant-loop-p

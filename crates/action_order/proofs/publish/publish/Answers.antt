@@ -1,11 +1,11 @@
 use Rattle.std.proofs.Common.{arith, ◌≡◌, ◌<◌, ℕ, length, sym, ◌∙◌, subst, rules}
 use Rattle.std.specs.List.{AllByRecursion}
 use Rattle.gt_core.specs.Published.{order_of}
-use Rattle.gt_core.proofs.Within.{lawful}
-use Rattle.gt_core.proofs.PublishedLaw.{published_keeps_apart}
-use Rattle.gt_core.proofs.UniqueLaw.{each_once}
+use Rattle.gt_core.proofs.published.Within.{lawful}
+use Rattle.gt_core.proofs.published.PublishedLaw.{published_keeps_apart}
+use Rattle.gt_core.proofs.published.UniqueLaw.{each_once}
 use Rattle.action_order.proofs.EdgesLaw.{is_graph}
-use Rattle.action_order.proofs.PublishLaw.{acts_within, edges_of, is_published, order_below, order_unequal, order_few, is_order}
+use Rattle.action_order.proofs.published.PublishLaw.{acts_within, edges_of, is_published, order_below, order_unequal, order_few, is_order}
 use Rattle.action_order.proofs.publish.publish.Goals as goal
 
 pub edges-requires-clause-within : goal.edges-requires-clause-within

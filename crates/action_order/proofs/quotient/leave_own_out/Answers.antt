@@ -1,7 +1,7 @@
 use Rattle.std.proofs.Common.{arith, ◌==◌, ◌&&◌, ◌<◌, ℕ, List, [], not, length, ap, ◌∙◌}
 use Rattle.std.proofs.lemmas.List.{get_or_read}
 use Rattle.bit_sets.specs.Rows.{row_has}
-use Rattle.action_order.specs.Graph.{class_at}
+use Rattle.action_order.specs.own.Graph.{class_at}
 use Rattle.action_order.proofs.QuotientLaw.{without_more}
 use Rattle.action_order.proofs.quotient.leave_own_out.Goals as goal
 

@@ -1,4 +1,4 @@
-use Rattle.action_order.specs.Quotient.{IsWithoutOwn}
+use Rattle.action_order.specs.own.Quotient.{IsWithoutOwn}
 use Rattle.action_order.proofs.quotient.leave_own_out.Given as goal
 
 abbrev pub invariant-loop-b : goal.invariant-loop-b

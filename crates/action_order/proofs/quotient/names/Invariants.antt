@@ -1,5 +1,5 @@
 use Rattle.std.proofs.Common.{length}
-use Rattle.action_order.specs.Quotient.{AreNames}
+use Rattle.action_order.specs.own.Quotient.{AreNames}
 use Rattle.action_order.proofs.quotient.names.Given as goal
 
 abbrev pub invariant-loop-a : goal.invariant-loop-a

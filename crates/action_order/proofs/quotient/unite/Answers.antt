@@ -1,8 +1,8 @@
 use Rattle.std.proofs.Common.{arith, ◌≡◌, ◌||◌, ◌<◌, ◌+◌, ◌-◌, ℕ, List, [], length, vec_len, take, take-take, sym, ap, ◌∙◌, subst}
 use Rattle.std.proofs.lemmas.List.{get_or_read}
 use Rattle.bit_sets.specs.Rows.{row_has}
-use Rattle.action_order.specs.Graph.{row_at, class_at}
-use Rattle.action_order.specs.Quotient.{AreUnited}
+use Rattle.action_order.specs.own.Graph.{row_at, class_at}
+use Rattle.action_order.specs.own.Quotient.{AreUnited}
 use Rattle.action_order.proofs.QuotientLaw.{united_more, popped_row}
 use Rattle.action_order.proofs.quotient.unite.Goals as goal
 

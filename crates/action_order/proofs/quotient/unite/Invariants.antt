@@ -1,5 +1,5 @@
 use Rattle.std.proofs.Common.{◌≡◌, ◌≤◌, vec_len, take, length}
-use Rattle.action_order.specs.Quotient.{AreUnited}
+use Rattle.action_order.specs.own.Quotient.{AreUnited}
 use Rattle.action_order.proofs.quotient.unite.Given as goal
 
 abbrev pub invariant-loop-row : goal.invariant-loop-row

@@ -2,7 +2,7 @@ use Rattle.std.proofs.Common.{◌&&◌, ◌||◌, ◌∙◌, ℕ, List, Bool, []
 use Rattle.std.proofs.Math.Bool.{or_comm}
 use Rattle.std.proofs.lemmas.List.{get_or_read}
 use Rattle.bit_sets.specs.Rows.{row_has}
-use Rattle.action_order.specs.Graph.{row_at}
+use Rattle.action_order.specs.own.Graph.{row_at}
 use Rattle.action_order.proofs.readers.add_excluded.Goals as goal
 
 pub returns : goal.returns

@@ -3,8 +3,8 @@ use Rattle.std.proofs.lemmas.List.{get_or_read}
 use Rattle.std.proofs.lemmas.Bool.{cases_lt}
 use Rattle.bit_sets.specs.Rows.{row_has}
 use Rattle.gt_core.specs.Literal.{opposite}
-use Rattle.gt_core.proofs.Basics.{apart, or_left, or_right, or_split}
-use Rattle.action_order.specs.Graph.{row_at}
+use Rattle.gt_core.proofs.published.Basics.{apart, or_left, or_right, or_split}
+use Rattle.action_order.specs.own.Graph.{row_at}
 use Rattle.action_order.proofs.readers.add_opposed.Goals as goal
 
 pub loop-m-preserved : goal.loop-m-preserved

@@ -1,8 +1,8 @@
 use Rattle.std.proofs.Common.{◌≡◌, ◌<◌, ◌-◌, ℕ, true, length}
 use Rattle.bit_sets.specs.Rows.{row_has}
 use Rattle.gt_core.specs.Literal.{opposite}
-use Rattle.action_order.specs.Graph.{row_at}
-use Rattle.action_order.specs.Readers.{IsPartOf, IsOpposed}
+use Rattle.action_order.specs.own.Graph.{row_at}
+use Rattle.action_order.specs.own.Readers.{IsPartOf, IsOpposed}
 use Rattle.action_order.proofs.readers.add_opposed.Given as goal
 
 abbrev pub invariant-loop-m : goal.invariant-loop-m

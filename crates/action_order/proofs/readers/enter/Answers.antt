@@ -1,7 +1,7 @@
 use Rattle.std.proofs.Common.{◌≡◌, ◌==◌, ◌||◌, ℕ, List, [], subst}
 use Rattle.std.proofs.lemmas.List.{get_or_read}
 use Rattle.bit_sets.specs.Rows.{row_has}
-use Rattle.action_order.specs.Graph.{row_at}
+use Rattle.action_order.specs.own.Graph.{row_at}
 use Rattle.action_order.proofs.ReadersLaw.{entered_one}
 use Rattle.action_order.proofs.readers.enter.Goals as goal
 

@@ -1,10 +1,10 @@
 use Rattle.std.proofs.Common.{◌==◌, ◌/◌, ◌+◌, take, arith, ◌<◌, ℕ, List, length, subst}
-use Rattle.action_order.specs.Graph.{item}
-use Rattle.action_order.specs.Readers.{has_fact, IsEntered}
+use Rattle.action_order.specs.own.Graph.{item}
+use Rattle.action_order.specs.own.Readers.{has_fact, IsEntered}
 use Rattle.action_order.proofs.GrowLaw.{any_more}
 use Rattle.action_order.proofs.ReadersLaw.{entered_then}
 use Rattle.std.proofs.lemmas.List.{take_all}
-use Rattle.gt_core.proofs.Lists.{each_number}
+use Rattle.gt_core.proofs.published.Lists.{each_number}
 use Rattle.action_order.proofs.readers.enter_condition.Goals as goal
 
 pub loop-lit-preserved : goal.loop-lit-preserved

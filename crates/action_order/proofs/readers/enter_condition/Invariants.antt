@@ -1,5 +1,5 @@
 use Rattle.std.proofs.Common.{take}
-use Rattle.action_order.specs.Readers.{IsEntered, has_fact}
+use Rattle.action_order.specs.own.Readers.{IsEntered, has_fact}
 use Rattle.action_order.proofs.readers.enter_condition.Given as goal
 
 abbrev pub invariant-loop-lit : goal.invariant-loop-lit

@@ -2,8 +2,8 @@ use Rattle.std.proofs.Common.{◌+◌, ◌/◌, ◌<◌, take, length, List, ℕ
 use Rattle.gt_core.specs.Task.{Effect}
 use Rattle.gt_core.specs.Active.{EffectWithin}
 use Rattle.gt_core.specs.Interference.{action_asks}
-use Rattle.gt_core.proofs.Lists.{each_number}
-use Rattle.action_order.specs.Readers.{IsEntered, has_fact, of_effects}
+use Rattle.gt_core.proofs.published.Lists.{each_number}
+use Rattle.action_order.specs.own.Readers.{IsEntered, has_fact, of_effects}
 use Rattle.action_order.proofs.GrowLaw.{any_more}
 use Rattle.action_order.proofs.ReadersLaw.{entered_then}
 use Rattle.std.proofs.lemmas.List.{take_all}

@@ -1,11 +1,11 @@
 use Rattle.std.proofs.Common.{◌==◌, ◌+◌, take, arith, ◌<◌, ℕ, List, length, subst}
 use Rattle.gt_core.specs.Literal.{is_in}
-use Rattle.action_order.specs.Graph.{item}
+use Rattle.action_order.specs.own.Graph.{item}
 use Rattle.action_order.proofs.GrowLaw.{any_more}
 use Rattle.action_order.proofs.ReadersLaw.{entered_then}
 use Rattle.std.proofs.lemmas.List.{take_all}
-use Rattle.gt_core.proofs.Lists.{each_number}
-use Rattle.action_order.specs.Readers.{IsEntered}
+use Rattle.gt_core.proofs.published.Lists.{each_number}
+use Rattle.action_order.specs.own.Readers.{IsEntered}
 use Rattle.action_order.proofs.readers.enter_literals.Goals as goal
 
 pub loop-lit-preserved : goal.loop-lit-preserved

@@ -4,10 +4,10 @@ use Rattle.std.proofs.lemmas.Bool.{lt-ltb}
 use Rattle.bit_sets.specs.Rows.{row_has}
 use Rattle.gt_core.specs.Literal.{opposite}
 use Rattle.gt_core.specs.Interference.{has_clause}
-use Rattle.gt_core.proofs.Basics.{apart, and_split, and_both, or_right, or_split, same_if}
-use Rattle.gt_core.proofs.Literals.{opposite_twice}
-use Rattle.action_order.specs.Graph.{row_at}
-use Rattle.action_order.specs.Readers.{is_excluded}
+use Rattle.gt_core.proofs.published.Basics.{apart, and_split, and_both, or_right, or_split, same_if}
+use Rattle.gt_core.proofs.published.Literals.{opposite_twice}
+use Rattle.action_order.specs.own.Graph.{row_at}
+use Rattle.action_order.specs.own.Readers.{is_excluded}
 use Rattle.action_order.proofs.ExclusionLaw.{opposite_within, by_opposite, by_clause, by_lone, Excluder, excluder}
 use Rattle.action_order.proofs.readers.excluded.Goals as goal
 

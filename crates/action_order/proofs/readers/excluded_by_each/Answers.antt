@@ -1,7 +1,7 @@
 use Rattle.std.proofs.Common.{◌&&◌, ◌||◌, ℕ, Bool, sym, ap, ◌∙◌}
 use Rattle.bit_sets.specs.Rows.{row_has}
 use Rattle.gt_core.specs.Interference.{exclusive}
-use Rattle.action_order.specs.Graph.{row_at}
+use Rattle.action_order.specs.own.Graph.{row_at}
 use Rattle.action_order.proofs.GrowLaw.{any_below_more}
 use Rattle.action_order.proofs.readers.excluded_by_each.Goals as goal
 

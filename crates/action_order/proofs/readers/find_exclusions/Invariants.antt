@@ -1,4 +1,4 @@
-use Rattle.action_order.specs.Readers.{AreExclusions}
+use Rattle.action_order.specs.own.Readers.{AreExclusions}
 use Rattle.action_order.proofs.readers.find_exclusions.Given as goal
 
 abbrev pub invariant-loop-p : goal.invariant-loop-p

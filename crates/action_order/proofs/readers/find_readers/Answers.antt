@@ -2,7 +2,7 @@ use Rattle.std.proofs.Common.{◌*◌, subst, arith, ◌≡◌, length, ℕ}
 use Rattle.gt_core.specs.Literal.{is_in}
 use Rattle.gt_core.specs.Task.{Action}
 use Rattle.gt_core.specs.Interference.{action_needs, action_asks}
-use Rattle.action_order.specs.Readers.{IsEntered, needs, asks_of, of_effects, AreRowsOf}
+use Rattle.action_order.specs.own.Readers.{IsEntered, needs, asks_of, of_effects, AreRowsOf}
 use Rattle.action_order.proofs.ReadersLaw.{none_entered, entered_more, act_is, within_at}
 use Rattle.action_order.proofs.readers.find_readers.Goals as goal
 

@@ -1,5 +1,5 @@
 use Rattle.std.proofs.Common.{◌*◌}
-use Rattle.action_order.specs.Readers.{AreRowsOf, needs, asks_of}
+use Rattle.action_order.specs.own.Readers.{AreRowsOf, needs, asks_of}
 use Rattle.action_order.proofs.readers.find_readers.Given as goal
 
 abbrev pub invariant-loop-b : goal.invariant-loop-b

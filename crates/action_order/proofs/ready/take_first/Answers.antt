@@ -3,7 +3,7 @@ use Rattle.std.specs.Prelude.{IfSome}
 use Rattle.std.specs.List.{All}
 use Rattle.std.specs.Ordering.{nat_cmp}
 use Rattle.std.specs.BTreeMap.Range.{IsLtBy}
-use Rattle.action_order.specs.KeySet.{IsFirst}
+use Rattle.action_order.specs.own.KeySet.{IsFirst}
 use Rattle.action_order.proofs.ReadyLaw.{first_key}
 use Rattle.action_order.proofs.ready.take_first.Goals as goal
 

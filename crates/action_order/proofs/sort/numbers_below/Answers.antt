@@ -1,5 +1,5 @@
 use Rattle.std.proofs.Common.{sym}
-use Rattle.action_order.proofs.Lists.{range_more}
+use Rattle.action_order.proofs.published.Lists.{range_more}
 use Rattle.action_order.proofs.sort.numbers_below.Goals as goal
 
 pub loop-i-preserved : goal.loop-i-preserved

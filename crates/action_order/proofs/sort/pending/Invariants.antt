@@ -1,7 +1,7 @@
 use Rattle.std.proofs.Common.{◌≡◌, ◌-◌, ◌<◌, ◌≤◌, ℕ, true, length}
 use Rattle.bit_sets.specs.Rows.{row_has}
-use Rattle.action_order.specs.Graph.{class_at}
-use Rattle.action_order.specs.Sorting.{is_taken}
+use Rattle.action_order.specs.own.Graph.{class_at}
+use Rattle.action_order.specs.own.Sorting.{is_taken}
 use Rattle.action_order.proofs.sort.pending.Given as goal
 
 abbrev pub invariant-loop-b : goal.invariant-loop-b

@@ -1,8 +1,8 @@
 use Rattle.std.proofs.Common.{arith, ◌<◌, List, ℕ, [], length, ◌∙◌, subst}
-use Rattle.action_order.specs.Graph.{class_at}
-use Rattle.action_order.specs.Sorting.{IsSorting}
-use Rattle.gt_core.proofs.Literals.{below_range, in_among}
-use Rattle.action_order.proofs.Lists.{in_at}
+use Rattle.action_order.specs.own.Graph.{class_at}
+use Rattle.action_order.specs.own.Sorting.{IsSorting}
+use Rattle.gt_core.proofs.published.Literals.{below_range, in_among}
+use Rattle.action_order.proofs.published.Lists.{in_at}
 use Rattle.action_order.proofs.SortingLaw.{sorting_start, all_taken, fewer_untaken, component_named}
 use Rattle.action_order.proofs.sort.sort_components.Goals as goal
 

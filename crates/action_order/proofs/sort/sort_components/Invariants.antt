@@ -1,5 +1,5 @@
 use Rattle.std.proofs.Common.{[], not, count_by}
-use Rattle.action_order.specs.SortingOf.{IsSortingOf}
+use Rattle.action_order.specs.own.SortingOf.{IsSortingOf}
 use Rattle.action_order.proofs.sort.sort_components.Given as goal
 
 abbrev pub invariant-loop-sort : goal.invariant-loop-sort

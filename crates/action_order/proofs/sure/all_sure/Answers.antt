@@ -1,11 +1,11 @@
 use Rattle.std.proofs.Common.{arith, ◌≡◌, ◌*◌, ◌+◌, ℕ, List, [], ◌∷◌, ◌++◌, length, refl, sym, ap, ◌∙◌, subst}
 use Rattle.std.proofs.lemmas.List.{length_push}
 use Rattle.gt_core.specs.Task.{Effect, Action}
-use Rattle.action_order.specs.Graph.{row_at}
-use Rattle.action_order.specs.Readers.{act_at}
-use Rattle.action_order.specs.Sure.{IsSure, AreMade}
+use Rattle.action_order.specs.own.Graph.{row_at}
+use Rattle.action_order.specs.own.Readers.{act_at}
+use Rattle.action_order.specs.own.Sure.{IsSure, AreMade}
 use Rattle.action_order.proofs.ReadersLaw.{effects_below, act_is, within_at}
-use Rattle.gt_core.proofs.Lists.{pushed_each}
+use Rattle.gt_core.proofs.published.Lists.{pushed_each}
 use Rattle.action_order.proofs.sure.all_sure.Goals as goal
 
 pub sure_literals-requires : goal.sure_literals-requires

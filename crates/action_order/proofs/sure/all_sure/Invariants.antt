@@ -1,7 +1,7 @@
 use Rattle.std.proofs.Common.{◌≡◌, ◌*◌, ◌<◌, ℕ, length}
-use Rattle.action_order.specs.Graph.{row_at}
-use Rattle.action_order.specs.Readers.{act_at}
-use Rattle.action_order.specs.Sure.{IsSure}
+use Rattle.action_order.specs.own.Graph.{row_at}
+use Rattle.action_order.specs.own.Readers.{act_at}
+use Rattle.action_order.specs.own.Sure.{IsSure}
 use Rattle.action_order.proofs.sure.all_sure.Given as goal
 
 abbrev pub invariant-loop-act : goal.invariant-loop-act

@@ -1,7 +1,7 @@
 use Rattle.std.proofs.Common.{◌==◌, ◌||◌, ℕ, Bool, sym, ap, ◌∙◌, take}
 use Rattle.gt_core.specs.Task.{Effect}
 use Rattle.gt_core.specs.Interference.{action_may_make}
-use Rattle.action_order.specs.Readers.{of_effects}
+use Rattle.action_order.specs.own.Readers.{of_effects}
 use Rattle.action_order.proofs.GrowLaw.{any_more}
 use Rattle.action_order.proofs.sure.collect_literals.Goals as goal
 

@@ -1,5 +1,5 @@
 use Rattle.std.proofs.Common.{take}
-use Rattle.action_order.specs.Sure.{AreMade}
+use Rattle.action_order.specs.own.Sure.{AreMade}
 use Rattle.action_order.proofs.sure.collect_literals.Given as goal
 
 abbrev pub invariant-loop-effect : goal.invariant-loop-effect

@@ -2,7 +2,7 @@ use Rattle.std.proofs.Common.{arith, length, ◌≡◌, ◌*◌, ◌==◌, ◌&&
 use Rattle.std.proofs.Math.Seq.{take-length}
 use Rattle.gt_core.specs.Literal.{is_in}
 use Rattle.gt_core.specs.Task.{Effect}
-use Rattle.action_order.specs.Sure.{is_sure, is_sure_of, makes_surely}
+use Rattle.action_order.specs.own.Sure.{is_sure, is_sure_of, makes_surely}
 use Rattle.action_order.proofs.GrowLaw.{in_pushed}
 use Rattle.action_order.proofs.SureLaw.{sure_more, sure_below}
 use Rattle.action_order.proofs.sure.sure_literals.Goals as goal

@@ -1,6 +1,6 @@
 use Rattle.std.proofs.Common.{◌≡◌, ℕ, take}
 use Rattle.gt_core.specs.Literal.{is_in}
-use Rattle.action_order.specs.Sure.{is_sure_of}
+use Rattle.action_order.specs.own.Sure.{is_sure_of}
 use Rattle.action_order.proofs.sure.sure_literals.Given as goal
 
 abbrev pub invariant-loop-effect : goal.invariant-loop-effect

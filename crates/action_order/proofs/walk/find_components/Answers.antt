@@ -1,6 +1,6 @@
 use Rattle.std.proofs.Common.{arith, ◌≡◌, ℕ, subst, inl, inr}
 use Rattle.std.proofs.lemmas.Bool.{cases_lt}
-use Rattle.action_order.specs.Walk.{mark_of}
+use Rattle.action_order.specs.own.Walk.{mark_of}
 use Rattle.action_order.specs.declared.walk.Mark.TheVariants.{Unseen}
 use Rattle.action_order.proofs.ClassLaw.{classed}
 use Rattle.action_order.proofs.walk.find_components.Goals as goal

@@ -1,5 +1,5 @@
 use Rattle.std.proofs.Common.{◌≡◌, ℕ, ◌<◌, length}
-use Rattle.action_order.specs.Walk.{mark_of, IsWalkOf}
+use Rattle.action_order.specs.own.Walk.{mark_of, IsWalkOf}
 use Rattle.action_order.specs.declared.walk.Mark.TheVariants.{Unseen}
 use Rattle.action_order.proofs.walk.find_components.Given as goal
 

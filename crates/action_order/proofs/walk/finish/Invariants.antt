@@ -1,4 +1,4 @@
-use Rattle.action_order.specs.Walk.{MarksFrom}
+use Rattle.action_order.specs.own.Walk.{MarksFrom}
 use Rattle.action_order.specs.declared.walk.Mark.TheVariants.{Done}
 use Rattle.action_order.proofs.walk.finish.Given as goal
 

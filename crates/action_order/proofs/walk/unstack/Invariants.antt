@@ -1,4 +1,4 @@
-use Rattle.action_order.specs.Walk.{TakesFrom}
+use Rattle.action_order.specs.own.Walk.{TakesFrom}
 use Rattle.action_order.proofs.walk.unstack.Given as goal
 
 abbrev pub invariant-loop-i : goal.invariant-loop-i

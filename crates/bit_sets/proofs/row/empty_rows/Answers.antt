@@ -2,7 +2,7 @@ use Rattle.std.specs.Prelude.{slice_index_or}
 use Rattle.std.proofs.Common.{rules, of_calls, List, ◌≡◌, ℕ, [], false, length, ap, ◌∙◌}
 use Rattle.std.proofs.lemmas.List.{length-replicate}
 use Rattle.std.proofs.lemmas.Result.{IfOk-weaker}
-use Rattle.containers.proofs.Made.{get_or-replicate_default}
+use Rattle.containers.proofs.published.Made.{get_or-replicate_default}
 use Rattle.bit_sets.specs.Rows.{row_has}
 use Rattle.bit_sets.proofs.row.empty_rows.Goals as goal
 

@@ -1,4 +1,4 @@
-use Rattle.bit_sets.proofs.WordLaw.{and_has}
+use Rattle.bit_sets.proofs.published.WordLaw.{and_has}
 use Rattle.bit_sets.proofs.word.common.Goals as goal
 
 pub returns : goal.returns

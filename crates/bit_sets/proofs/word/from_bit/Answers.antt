@@ -1,4 +1,4 @@
-use Rattle.bit_sets.proofs.WordLaw.{from_has}
+use Rattle.bit_sets.proofs.published.WordLaw.{from_has}
 use Rattle.bit_sets.proofs.word.from_bit.Goals as goal
 
 pub returns : goal.returns

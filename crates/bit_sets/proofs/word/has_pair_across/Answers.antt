@@ -1,6 +1,6 @@
 use Rattle.std.proofs.Common.{arith, refl, bit_and, ◌/◌}
 use Rattle.std.proofs.lemmas.Nat.{and_le_l}
-use Rattle.bit_sets.proofs.WordLaw.{pair_test}
+use Rattle.bit_sets.proofs.published.WordLaw.{pair_test}
 use Rattle.bit_sets.proofs.word.has_pair_across.Goals as goal
 
 pub returns : goal.returns

@@ -1,4 +1,4 @@
-use Rattle.bit_sets.proofs.WordLaw.{or_has}
+use Rattle.bit_sets.proofs.published.WordLaw.{or_has}
 use Rattle.bit_sets.proofs.word.united.Goals as goal
 
 pub returns : goal.returns

@@ -1,4 +1,4 @@
-use Rattle.bit_sets.proofs.WordLaw.{set_same, set_other}
+use Rattle.bit_sets.proofs.published.WordLaw.{set_same, set_other}
 use Rattle.bit_sets.proofs.word.with_bit.Goals as goal
 
 pub returns-clause-same : goal.returns-clause-same

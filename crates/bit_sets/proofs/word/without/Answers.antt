@@ -1,4 +1,4 @@
-use Rattle.bit_sets.proofs.WordLaw.{and_not_has}
+use Rattle.bit_sets.proofs.published.WordLaw.{and_not_has}
 use Rattle.bit_sets.proofs.word.without.Goals as goal
 
 pub returns : goal.returns

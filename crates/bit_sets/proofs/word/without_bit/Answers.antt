@@ -1,4 +1,4 @@
-use Rattle.bit_sets.proofs.WordLaw.{clear_same, clear_other, cleared_kept}
+use Rattle.bit_sets.proofs.published.WordLaw.{clear_same, clear_other, cleared_kept}
 use Rattle.bit_sets.proofs.word.without_bit.Goals as goal
 
 pub returns-clause-same : goal.returns-clause-same

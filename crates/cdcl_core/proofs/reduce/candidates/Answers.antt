@@ -1,11 +1,11 @@
 use Rattle.std.proofs.Common.{arith, ◌≡◌, ◌<◌, ◌+◌, ◌++◌, ◌∙◌, ℕ, List, Bool, false, not, filter, length, length-append, drop, get_or, sym, ap, subst}
 use Rattle.std.proofs.lemmas.List.{drop_more, get_or_default}
-use Rattle.cdcl_rules.specs.declared.trail.Assigned.{Assigned}
-use Rattle.cdcl_rules.specs.Reduce.{has_forced, candidates}
+use Rattle.cdcl_defs.specs.declared.trail.Assigned.{Assigned}
+use Rattle.cdcl_defs.specs.Reduce.{has_forced, candidates}
 use Rattle.clause_base.specs.Derivation.{clauses_of}
-use Rattle.conflict_walk.specs.Clauses.{ClausesView, all_clauses}
-use Rattle.conflict_walk.specs.Longs.{long_ones}
-use Rattle.conflict_walk.proofs.Longs.{long_below}
+use Rattle.conflict_analysis.specs.Clauses.{ClausesView, all_clauses}
+use Rattle.conflict_analysis.specs.Longs.{long_ones}
+use Rattle.conflict_analysis.proofs.published.Longs.{long_below}
 use Rattle.cdcl_core.proofs.Scans.{free_ones, taken_one, passed_one}
 use Rattle.cdcl_core.proofs.reduce.candidates.Goals.{then-not-index+in_ok-push, else-not-index}
 use Rattle.cdcl_core.proofs.reduce.candidates.Goals as goal

@@ -1,6 +1,6 @@
 use Rattle.std.proofs.Common.{◌≡◌, ◌++◌, not, drop, length, filter}
-use Rattle.cdcl_rules.specs.Reduce.{has_forced, candidates}
-use Rattle.conflict_walk.specs.Clauses.{all_clauses}
+use Rattle.cdcl_defs.specs.Reduce.{has_forced, candidates}
+use Rattle.conflict_analysis.specs.Clauses.{all_clauses}
 use Rattle.cdcl_core.proofs.reduce.candidates.Given as goal
 
 abbrev pub invariant-loop-number : goal.invariant-loop-number

@@ -1,5 +1,5 @@
 use Rattle.std.proofs.Common.{◌≡◌, ◌<◌, ℕ, ◌||◌, drop, length, get_or, false}
-use Rattle.cdcl_rules.specs.Reduce.{has_forced}
+use Rattle.cdcl_defs.specs.Reduce.{has_forced}
 use Rattle.cdcl_core.proofs.reduce.forced_flags.Given as goal
 
 abbrev pub invariant-loop-entry : goal.invariant-loop-entry

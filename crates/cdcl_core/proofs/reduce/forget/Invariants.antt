@@ -1,6 +1,6 @@
 use Rattle.std.proofs.Common.{◌≡◌, drop}
-use Rattle.cdcl_rules.specs.Reduce.{kept_without}
-use Rattle.cdcl_core.specs.Search.{AreKept}
+use Rattle.cdcl_defs.specs.Reduce.{kept_without}
+use Rattle.cdcl_core.specs.own.Search.{AreKept}
 use Rattle.cdcl_core.proofs.reduce.forget.Given as goal
 
 abbrev pub invariant-loop-number : goal.invariant-loop-number

@@ -1,8 +1,8 @@
 use Rattle.std.proofs.Common.{List, Bool, length, ap, sym, subst}
 use Rattle.clause_base.specs.Clause.{IsRising}
-use Rattle.conflict_walk.specs.Clauses.{all_clauses}
+use Rattle.conflict_analysis.specs.Clauses.{all_clauses}
 use Rattle.propagation.specs.Pending.{PropagatorView}
-use Rattle.cdcl_core.specs.Search.{AreKept}
+use Rattle.cdcl_core.specs.own.Search.{AreKept}
 use Rattle.cdcl_core.proofs.Watching.{half_is, half_kept, half_rises, watched_drops}
 use Rattle.cdcl_core.proofs.reduce.reduce.Goals as goal
 

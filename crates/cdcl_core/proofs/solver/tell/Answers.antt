@@ -1,6 +1,6 @@
 use Rattle.std.proofs.Common.{arith, ◌≡◌, ◌<◌, ◌∙◌, List, take, length, get_or, sym, ap, subst}
-use Rattle.cdcl_rules.specs.declared.trail.Assigned.{Assigned}
-use Rattle.cdcl_trail.specs.Assignment.{literals}
+use Rattle.cdcl_defs.specs.declared.trail.Assigned.{Assigned}
+use Rattle.cdcl_tables.specs.Assignment.{literals}
 use Rattle.cdcl_core.proofs.Told.{next_told}
 use Rattle.cdcl_core.proofs.solver.tell.Goals as goal
 

@@ -1,5 +1,5 @@
 use Rattle.std.proofs.Common.{take}
-use Rattle.cdcl_trail.specs.Assignment.{literals}
+use Rattle.cdcl_tables.specs.Assignment.{literals}
 use Rattle.cdcl_core.proofs.solver.tell.Given as goal
 
 abbrev pub invariant-loop-i : goal.invariant-loop-i

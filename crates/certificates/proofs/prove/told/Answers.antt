@@ -1,8 +1,8 @@
 use Rattle.std.proofs.Common.{◌≡◌, List, sym, ap, ◌∙◌}
 use Rattle.std.proofs.lemmas.Result.{IfOk-weaker}
 use Rattle.clause_base.specs.declared.log.Entry.{Entry}
-use Rattle.cdcl_rules.specs.declared.standing.Standing.{Standing}
-use Rattle.cdcl_rules.specs.declared.standing.Standing.TheVariants.{Going, Found, Refuted}
+use Rattle.cdcl_defs.specs.declared.standing.Standing.{Standing}
+use Rattle.cdcl_defs.specs.declared.standing.Standing.TheVariants.{Going, Found, Refuted}
 use Rattle.certificates.specs.Proved.{certificate_of, proved_as, proved_of}
 use Rattle.certificates.specs.declared.prove.Proved.TheVariants.{Plan, Open}
 use Rattle.certificates.proofs.Runs.{no_other, used_up, certifies, found_model}

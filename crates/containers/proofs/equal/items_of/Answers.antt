@@ -1,5 +1,5 @@
 use Rattle.std.proofs.Common.{rules, ◌≡◌, replicate, length, sym, ap, ◌∙◌}
-use Rattle.containers.proofs.Made.{made_alike}
+use Rattle.containers.proofs.published.Made.{made_alike}
 use Rattle.containers.proofs.equal.items_of.Goals as goal
 
 -- src/lib.rt:8:1

@@ -1,5 +1,5 @@
 use Rattle.std.proofs.Common.{rules, true, ◌≡◌, ◌∙◌, ◌++◌, ◌∷◌, [], ap, ℕ, List, Bool, length, if◌then◌else◌, append_assoc}
-use Rattle.containers.specs.Pieces.{pieces, AreEnds}
+use Rattle.containers.specs.own.Pieces.{pieces, AreEnds}
 use Rattle.containers.proofs.PieceLemmas.{cut_by, pieces_by}
 use Rattle.containers.proofs.flat_lists.push_joined.Goals as goal
 

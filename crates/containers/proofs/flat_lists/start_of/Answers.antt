@@ -1,5 +1,5 @@
 use Rattle.std.proofs.Common.{arith, ◌≡◌, ◌∙◌, ◌-◌, ◌<◌, suc, length, sym, ap}
-use Rattle.containers.specs.Pieces.{start_of}
+use Rattle.containers.specs.own.Pieces.{start_of}
 use Rattle.containers.proofs.PieceLemmas.{start_of-first, start_of-next}
 use Rattle.containers.proofs.flat_lists.start_of.Goals as goal
 

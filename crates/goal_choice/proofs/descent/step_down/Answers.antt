@@ -1,5 +1,5 @@
 use Rattle.std.proofs.Common.{◌∙◌, refl, ap}
-use Rattle.goal_choice.specs.Members.{Literals}
+use Rattle.goal_choice.specs.own.Members.{Literals}
 use Rattle.goal_choice.proofs.Kept.{chooses, goes_on, other_facts}
 use Rattle.goal_choice.proofs.descent.step_down.Goals as goal
 

@@ -1,5 +1,5 @@
 use Rattle.std.proofs.Common.{◌≡◌, ◌≤◌}
-use Rattle.goal_choice.specs.Kept.{IsWalk}
+use Rattle.goal_choice.specs.own.Kept.{IsWalk}
 use Rattle.goal_choice.proofs.descent.walk_down.Given as goal
 
 abbrev pub invariant-walking : goal.invariant-walking

@@ -1,7 +1,7 @@
 use Rattle.std.proofs.Common.{arith, ◌≡◌, ◌∙◌, ℕ, [], List, fold, sym, ap}
-use Rattle.clause_base.specs.Clause.{put}
-use Rattle.horizon_formula.specs.Layout.{Layout}
-use Rattle.goal_choice.specs.Members.{Literals}
+use Rattle.containers.specs.Rising.{put}
+use Rattle.formula_defs.specs.Layout.{Layout}
+use Rattle.goal_choice.specs.own.Members.{Literals}
 use Rattle.goal_choice.specs.Walk.{support_of, walk}
 use Rattle.goal_choice.proofs.Steps.{put_rising}
 use Rattle.goal_choice.proofs.descent.whole_walk.Goals as goal

@@ -1,6 +1,6 @@
 use Rattle.std.proofs.Common.{◌≡◌, ◌≤◌}
 use Rattle.goal_choice.specs.Walk.{support_of, walk}
-use Rattle.goal_choice.specs.Kept.{walked}
+use Rattle.goal_choice.specs.own.Kept.{walked}
 use Rattle.goal_choice.proofs.descent.whole_walk.Given as goal
 
 abbrev pub invariant-walking : goal.invariant-walking

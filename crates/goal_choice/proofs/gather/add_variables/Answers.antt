@@ -1,6 +1,6 @@
 use Rattle.std.proofs.Common.{◌≡◌, ◌∙◌, ◌++◌, ◌∷◌, [], List, ℕ, Bool, true, sym, ap, subst}
 use Rattle.std.specs.List.Sorted.{IsNonDecreasing}
-use Rattle.goal_choice.specs.Search.{AreMarked}
+use Rattle.goal_choice.specs.own.Search.{AreMarked}
 use Rattle.goal_choice.proofs.Found.{marked_more, rising_if}
 use Rattle.goal_choice.proofs.gather.add_variables.Goals as goal
 

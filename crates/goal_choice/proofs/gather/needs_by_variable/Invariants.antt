@@ -1,8 +1,8 @@
 use Rattle.std.proofs.Common.{◌≡◌, ◌<◌, length, map, take}
 use Rattle.std.specs.List.{flat_map, AllByRecursion}
 use Rattle.gt_core.specs.Task.{Action}
-use Rattle.goal_choice.specs.Needs.{needs_in}
-use Rattle.goal_choice.specs.Joined.{joined}
+use Rattle.goal_choice.specs.own.Needs.{needs_in}
+use Rattle.goal_choice.specs.own.Joined.{joined}
 use Rattle.goal_choice.proofs.gather.needs_by_variable.Given as goal
 
 abbrev pub invariant-loop-number : goal.invariant-loop-number

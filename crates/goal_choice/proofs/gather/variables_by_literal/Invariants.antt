@@ -1,5 +1,5 @@
 use Rattle.std.proofs.Common.{◌≡◌, ◌/◌, map, take}
-use Rattle.goal_choice.specs.Search.{AreMarked}
+use Rattle.goal_choice.specs.own.Search.{AreMarked}
 use Rattle.goal_choice.proofs.gather.variables_by_literal.Given as goal
 
 abbrev pub invariant-loop-makers : goal.invariant-loop-makers

@@ -1,5 +1,5 @@
 use Rattle.std.proofs.Common.{◌≡◌, ◌-◌, ◌≤◌, replicate, vec_len}
-use Rattle.goal_choice.specs.Members.{no_literals}
+use Rattle.goal_choice.specs.own.Members.{no_literals}
 use Rattle.goal_choice.proofs.literals.empty_sets.Given as goal
 
 abbrev pub invariant-filling : goal.invariant-filling

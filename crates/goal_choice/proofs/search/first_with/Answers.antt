@@ -2,7 +2,7 @@ use Rattle.std.proofs.Common.{◌∙◌, ◌+◌, drop, get_or, ap, sym, subst}
 use Rattle.std.proofs.lemmas.List.{drop_more}
 use Rattle.std.proofs.lemmas.List.Sorted.{IsNonDecreasingBy-drop}
 use Rattle.std.specs.List.Sorted.{IsNonDecreasing}
-use Rattle.goal_choice.specs.Search.{least_variable}
+use Rattle.goal_choice.specs.own.Search.{least_variable}
 use Rattle.goal_choice.proofs.Found.{first_least}
 use Rattle.goal_choice.proofs.search.first_with.Goals as goal
 

@@ -1,5 +1,5 @@
 use Rattle.std.proofs.Common.{◌≡◌, drop}
-use Rattle.goal_choice.specs.Search.{least_variable}
+use Rattle.goal_choice.specs.own.Search.{least_variable}
 use Rattle.goal_choice.proofs.search.first_with.Given as goal
 
 abbrev pub invariant-loop-variable : goal.invariant-loop-variable

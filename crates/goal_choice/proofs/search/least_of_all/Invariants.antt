@@ -1,5 +1,5 @@
 use Rattle.std.proofs.Common.{◌≡◌, ◌≤◌, drop, length}
-use Rattle.goal_choice.specs.Search.{least_variable}
+use Rattle.goal_choice.specs.own.Search.{least_variable}
 use Rattle.goal_choice.proofs.search.least_of_all.Given as goal
 
 abbrev pub invariant-scanning : goal.invariant-scanning

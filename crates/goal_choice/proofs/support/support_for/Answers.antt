@@ -1,6 +1,6 @@
 use Rattle.std.proofs.Common.{arith, ◌≤◌, ◌∙◌, ◌++◌, [], length, Some, true, sym, ap, subst}
 use Rattle.std.specs.Prelude.{slice_index_or}
-use Rattle.horizon_formula.specs.Layout.{Layout, variables}
+use Rattle.formula_defs.specs.Layout.{Layout, variables}
 use Rattle.goal_choice.specs.Means.{Supporter, start_of}
 use Rattle.goal_choice.proofs.Ranges.{in_step, needs_within, least_small}
 use Rattle.goal_choice.proofs.support.support_for.Goals as goal

@@ -1,6 +1,6 @@
 use Rattle.std.proofs.Common.{arith, ◌<◌, ◌/◌, ◌+◌, ◌++◌, ◌∙◌, ℕ, [], ◌∷◌, ap, sym, subst, refl}
 use Rattle.std.specs.List.{AllByRecursion}
-use Rattle.goal_choice.specs.Members.{Literals, members_from}
+use Rattle.goal_choice.specs.own.Members.{Literals, members_from}
 use Rattle.goal_choice.specs.Walk.{support_of}
 use Rattle.goal_choice.proofs.Sets.{all_from}
 use Rattle.goal_choice.proofs.Joined.{all_of_first, all_of_second}

@@ -1,5 +1,5 @@
 use Rattle.std.proofs.Common.{length}
-use Rattle.goal_choice.specs.Members.{members_from}
+use Rattle.goal_choice.specs.own.Members.{members_from}
 use Rattle.goal_choice.specs.Walk.{support_of, supports}
 use Rattle.goal_choice.proofs.Steps.{IsGathered}
 use Rattle.goal_choice.proofs.walk.wanted_before.Given as goal

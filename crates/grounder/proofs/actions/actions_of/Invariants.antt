@@ -1,5 +1,5 @@
 use Rattle.std.proofs.Common.{◌≡◌, take}
-use Rattle.grounding_laws.specs.Found.{actions_of}
+use Rattle.grounding_defs.specs.Found.{actions_of}
 use Rattle.grounder.proofs.actions.actions_of.Given as goal
 
 abbrev pub invariant-loop-place : goal.invariant-loop-place

@@ -1,7 +1,7 @@
 use Rattle.std.proofs.Common.{◌≡◌, drop}
 use Rattle.std.specs.List.{list_all}
-use Rattle.grounding_laws.specs.Instance.{literals_of}
-use Rattle.grounding_laws.specs.Found.{may_be_true}
+use Rattle.grounding_defs.specs.Instance.{literals_of}
+use Rattle.grounding_defs.specs.Found.{may_be_true}
 use Rattle.grounder.proofs.actions.all_may_be_true.Given as goal
 
 abbrev pub invariant-loop-cond : goal.invariant-loop-cond

@@ -2,8 +2,8 @@ use Rattle.std.proofs.Common.{arith, ◌∙◌, ap, length}
 use Rattle.std.specs.List.{list_all}
 use Rattle.std.proofs.lemmas.List.{take_all}
 use Rattle.pd_model.specs.declared.calls.Call.{Call}
-use Rattle.grounding_laws.specs.Instance.{instance_of}
-use Rattle.grounding_laws.specs.Found.{may_be_true, actions_of}
+use Rattle.grounding_defs.specs.Instance.{instance_of}
+use Rattle.grounding_defs.specs.Found.{may_be_true, actions_of}
 use Rattle.reachability.specs.Derived.{call_with}
 use Rattle.grounder.proofs.Able.{counted_more, counted_few}
 use Rattle.grounder.proofs.actions.count_actions.Goals as goal

@@ -1,5 +1,5 @@
 use Rattle.std.proofs.Common.{◌≡◌, ◌≤◌, length, take}
-use Rattle.grounding_laws.specs.Found.{actions_of}
+use Rattle.grounding_defs.specs.Found.{actions_of}
 use Rattle.grounder.proofs.actions.count_actions.Given as goal
 
 abbrev pub invariant-loop-place : goal.invariant-loop-place

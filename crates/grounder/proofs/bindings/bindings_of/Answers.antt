@@ -1,6 +1,6 @@
 use Rattle.std.proofs.Common.{◌≡◌, ◌≤◌, ◌∙◌, ap, List, ℕ, subst, sym}
-use Rattle.grounding_laws.specs.Tuples.{saturated}
-use Rattle.grounder.specs.Bindings.{size}
+use Rattle.grounding_defs.specs.Tuples.{saturated}
+use Rattle.grounder.specs.own.Bindings.{size}
 use Rattle.grounder.proofs.Few.{size_of_types, few_fits}
 use Rattle.grounder.proofs.bindings.bindings_of.Goals as goal
 

@@ -1,5 +1,5 @@
 use Rattle.std.proofs.Common.{◌≡◌, ◌<◌, ◌++◌, drop}
-use Rattle.grounder.specs.Bindings.{size, tuple_at}
+use Rattle.grounder.specs.own.Bindings.{size, tuple_at}
 use Rattle.grounder.proofs.bindings.push_tuple.Given as goal
 
 abbrev pub invariant-loop-domain : goal.invariant-loop-domain

@@ -1,6 +1,6 @@
 use Rattle.std.proofs.Common.{◌≡◌, ◌*◌, ◌-◌, ◌^◌, ◌≤◌, drop}
-use Rattle.grounding_laws.specs.Tuples.{saturated}
-use Rattle.grounder.specs.Bindings.{size}
+use Rattle.grounding_defs.specs.Tuples.{saturated}
+use Rattle.grounder.specs.own.Bindings.{size}
 use Rattle.grounder.proofs.bindings.size_of.Given as goal
 
 abbrev pub invariant-loop-domain : goal.invariant-loop-domain

@@ -3,11 +3,11 @@ use Rattle.std.specs.List.{list_any}
 use Rattle.std.proofs.lemmas.Option.{slice_get_within, get_or_from_slice_get}
 use Rattle.pd_model.specs.declared.atoms.Atom.{Atom}
 use Rattle.pd_model.specs.declared.calls.Call.{Call}
-use Rattle.grounding_laws.specs.Instance.{instance_of}
-use Rattle.grounding_laws.specs.Found.{deletes}
+use Rattle.grounding_defs.specs.Instance.{instance_of}
+use Rattle.grounding_defs.specs.Found.{deletes}
 use Rattle.reachability.specs.Derived.{call_with}
-use Rattle.grounder.specs.Few.{HasFew}
-use Rattle.grounder.specs.Putting.{LeavesOut}
+use Rattle.grounder.specs.own.Few.{HasFew}
+use Rattle.grounder.specs.own.Putting.{LeavesOut}
 use Rattle.grounder.proofs.Few.{each_read}
 use Rattle.grounder.proofs.Leaving.{left_more}
 use Rattle.grounder.proofs.constant.constant_atoms.Goals as goal

@@ -1,6 +1,6 @@
 use Rattle.std.proofs.Common.{take}
-use Rattle.grounding_laws.specs.Found.{is_deleted}
-use Rattle.grounder.specs.Putting.{LeavesOut}
+use Rattle.grounding_defs.specs.Found.{is_deleted}
+use Rattle.grounder.specs.own.Putting.{LeavesOut}
 use Rattle.grounder.proofs.constant.constant_atoms.Given as goal
 
 abbrev pub invariant-loop-place : goal.invariant-loop-place

@@ -1,5 +1,5 @@
 use Rattle.std.proofs.Common.{◌∙◌, sym}
-use Rattle.grounding_laws.specs.Instance.{change_of}
+use Rattle.grounding_defs.specs.Instance.{change_of}
 use Rattle.grounder.proofs.Leaving.{left_deleted}
 use Rattle.grounder.proofs.constant.leave_out_deleted.Goals as goal
 

@@ -1,6 +1,6 @@
 use Rattle.std.proofs.Common.{arith, ◌∙◌, sym, ap}
-use Rattle.grounding_laws.specs.Instance.{change_of}
-use Rattle.grounder.specs.Putting.{effects_at}
+use Rattle.grounding_defs.specs.Instance.{change_of}
+use Rattle.grounder.specs.own.Putting.{effects_at}
 use Rattle.grounder.proofs.Placed.{placed}
 use Rattle.grounder.proofs.Put.{left_added, literal_is}
 use Rattle.grounder.proofs.effects.add_effect.Goals as goal

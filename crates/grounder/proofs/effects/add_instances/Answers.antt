@@ -1,7 +1,7 @@
 use Rattle.std.proofs.Common.{◌≡◌, ◌∙◌, sym, length}
 use Rattle.std.proofs.lemmas.Bool.{eqb-true}
 use Rattle.std.proofs.lemmas.Result.{on_ok_weaker}
-use Rattle.grounder.specs.Putting.{effects_at}
+use Rattle.grounder.specs.own.Putting.{effects_at}
 use Rattle.grounder.proofs.Put.{bare_added, change_added, changes_added}
 use Rattle.grounder.proofs.Listed.{nothing_added}
 use Rattle.grounder.proofs.effects.add_instances.Goals as goal

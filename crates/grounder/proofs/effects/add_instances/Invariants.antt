@@ -1,6 +1,6 @@
 use Rattle.std.proofs.Common.{◌≡◌, ◌++◌, take}
-use Rattle.grounding_laws.specs.Instance.{changes_of}
-use Rattle.grounder.specs.Putting.{effects_at, left_effects}
+use Rattle.grounding_defs.specs.Instance.{changes_of}
+use Rattle.grounder.specs.own.Putting.{effects_at, left_effects}
 use Rattle.grounder.proofs.effects.add_instances.Given as goal
 
 abbrev pub invariant-loop-number : goal.invariant-loop-number

@@ -1,5 +1,5 @@
 use Rattle.std.proofs.Common.{arith}
-use Rattle.grounder.specs.Putting.{effects_at}
+use Rattle.grounder.specs.own.Putting.{effects_at}
 use Rattle.grounder.proofs.Put.{effect_added}
 use Rattle.grounder.proofs.effects.effects_of.Goals as goal
 

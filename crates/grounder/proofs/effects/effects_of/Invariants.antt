@@ -1,7 +1,7 @@
 use Rattle.std.proofs.Common.{◌≡◌, take}
 use Rattle.std.specs.List.{flat_map}
-use Rattle.grounding_laws.specs.Instance.{changes_of}
-use Rattle.grounder.specs.Putting.{effects_at, left_effects}
+use Rattle.grounding_defs.specs.Instance.{changes_of}
+use Rattle.grounder.specs.own.Putting.{effects_at, left_effects}
 use Rattle.grounder.proofs.effects.effects_of.Given as goal
 
 abbrev pub invariant-loop-effect : goal.invariant-loop-effect

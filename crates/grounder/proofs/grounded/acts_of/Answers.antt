@@ -1,7 +1,7 @@
 use Rattle.std.proofs.Common.{arith, refl}
 use Rattle.pd_model.specs.declared.calls.Call.{Call}
-use Rattle.grounding_laws.specs.Instance.{instance_of}
-use Rattle.grounding_laws.specs.Simplify.{action_of}
+use Rattle.grounding_defs.specs.Instance.{instance_of}
+use Rattle.grounding_defs.specs.Simplify.{action_of}
 use Rattle.grounder.proofs.Counting.{counted_more}
 use Rattle.grounder.proofs.grounded.acts_of.Goals as goal
 

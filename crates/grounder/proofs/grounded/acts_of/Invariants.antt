@@ -1,7 +1,7 @@
 use Rattle.std.proofs.Common.{take, map}
-use Rattle.grounding_laws.specs.Instance.{instance_of}
-use Rattle.grounding_laws.specs.Simplify.{action_of}
-use Rattle.grounder.specs.Counted.{HasCounted}
+use Rattle.grounding_defs.specs.Instance.{instance_of}
+use Rattle.grounding_defs.specs.Simplify.{action_of}
+use Rattle.grounder.specs.own.Counted.{HasCounted}
 use Rattle.grounder.proofs.grounded.acts_of.Given as goal
 
 abbrev pub invariant-loop-call : goal.invariant-loop-call

@@ -1,11 +1,11 @@
 use Rattle.std.proofs.Common.{arith, Ok, Err, Result}
 use Rattle.std.specs.Prelude.{◌≤◌, IfOk}
-use Rattle.grounding_laws.specs.Grounded.{Grounded}
-use Rattle.grounding_laws.specs.Limits.{most_tuples}
-use Rattle.grounding_laws.specs.Tuples.{tuples_in}
+use Rattle.grounding_defs.specs.Grounded.{Grounded}
+use Rattle.grounding_defs.specs.Limits.{most_tuples}
+use Rattle.grounding_defs.specs.Tuples.{tuples_in}
 use Rattle.grounder.specs.declared.grounded.GroundError.{GroundError}
 use Rattle.grounder.proofs.Saturated.{few_saturated}
-use Rattle.atom_join.proofs.Same as thinned
+use Rattle.schema_domains.proofs.published.Same as thinned
 use Rattle.grounder.proofs.grounded.ground.Goals as goal
 use Rattle.grounder.proofs.grounded.ground.Goals.{After-ground_over}
 

@@ -1,5 +1,5 @@
 use Rattle.std.proofs.Common.{◌≡◌, take}
-use Rattle.grounding_laws.specs.Simplify.{values_in}
+use Rattle.grounding_defs.specs.Simplify.{values_in}
 use Rattle.grounder.proofs.grounded.initial_values.Given as goal
 
 abbrev pub invariant-loop-atom : goal.invariant-loop-atom

@@ -1,11 +1,11 @@
 use Rattle.std.proofs.Common.{arith, ◌≡◌, ◌∙◌, refl, ap, sym, subst, length}
 use Rattle.std.specs.List.{list_all}
-use Rattle.grounding_laws.specs.Instance.{instance_of}
-use Rattle.grounding_laws.specs.Found.{may_be_true, actions_of, grounded_by}
-use Rattle.grounding_laws.specs.Simplify.{task_of}
-use Rattle.grounding_laws.specs.Tuples.{saturated}
+use Rattle.grounding_defs.specs.Instance.{instance_of}
+use Rattle.grounding_defs.specs.Found.{may_be_true, actions_of, grounded_by}
+use Rattle.grounding_defs.specs.Simplify.{task_of}
+use Rattle.grounding_defs.specs.Tuples.{saturated}
 use Rattle.gt_core.specs.Lawful.{conditional_in}
-use Rattle.grounder.specs.Few.{HaveFew}
+use Rattle.grounder.specs.own.Few.{HaveFew}
 use Rattle.grounder.proofs.Few.{kept_few, left_few}
 use Rattle.grounder.proofs.Saturated.{few_saturated, many_saturated}
 use Rattle.grounder.proofs.Assembled.{found_is, found_sorted, with_task, few_actions}

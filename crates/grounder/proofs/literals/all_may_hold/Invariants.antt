@@ -1,6 +1,6 @@
 use Rattle.std.proofs.Common.{◌≡◌, drop}
-use Rattle.grounding_laws.specs.Instance.{literals_of}
-use Rattle.grounding_laws.specs.Found.{all_may_hold}
+use Rattle.grounding_defs.specs.Instance.{literals_of}
+use Rattle.grounding_defs.specs.Found.{all_may_hold}
 use Rattle.grounder.proofs.literals.all_may_hold.Given as goal
 
 abbrev pub invariant-loop-cond : goal.invariant-loop-cond

@@ -1,6 +1,6 @@
 use Rattle.std.proofs.Common.{◌≡◌, drop}
-use Rattle.grounding_laws.specs.Instance.{literals_of}
-use Rattle.grounding_laws.specs.Simplify.{any_never}
+use Rattle.grounding_defs.specs.Instance.{literals_of}
+use Rattle.grounding_defs.specs.Simplify.{any_never}
 use Rattle.grounder.proofs.literals.any_never.Given as goal
 
 abbrev pub invariant-loop-cond : goal.invariant-loop-cond

@@ -2,10 +2,10 @@ use Rattle.std.proofs.Common.{arith, ◌∙◌, ap}
 use Rattle.std.specs.Prelude.{nat_eq, nat_lt, filter_map}
 use Rattle.std.proofs.lemmas.List.{take_all}
 use Rattle.std.proofs.lemmas.List.Filters.{dedup_is}
-use Rattle.grounding_laws.specs.Instance.{literals_of}
-use Rattle.grounding_laws.specs.Simplify.{number_of}
-use Rattle.grounding_laws.specs.Sorted.{sorted_set}
-use Rattle.grounder.specs.Putting.{add_literal}
+use Rattle.grounding_defs.specs.Instance.{literals_of}
+use Rattle.grounding_defs.specs.Simplify.{number_of}
+use Rattle.grounding_defs.specs.Sorted.{sorted_set}
+use Rattle.grounder.specs.own.Putting.{add_literal}
 use Rattle.grounder.proofs.Compared.{numbers_sorted}
 use Rattle.grounder.proofs.Put.{literal_more}
 use Rattle.grounder.proofs.simplify.simplified.Goals as goal

@@ -1,7 +1,7 @@
 use Rattle.std.proofs.Common.{◌≡◌, take}
 use Rattle.std.specs.Prelude.{filter_map}
-use Rattle.grounding_laws.specs.Instance.{literals_of}
-use Rattle.grounding_laws.specs.Simplify.{number_of}
+use Rattle.grounding_defs.specs.Instance.{literals_of}
+use Rattle.grounding_defs.specs.Simplify.{number_of}
 use Rattle.grounder.proofs.simplify.simplified.Given as goal
 
 abbrev pub invariant-loop-cond : goal.invariant-loop-cond

@@ -1,6 +1,6 @@
 use Rattle.std.proofs.Common.{◌≡◌, ◌+◌, ◌-◌, ◌^◌, ◌≤◌, drop}
 use Rattle.std.specs.Prelude.{sum_by}
-use Rattle.grounding_laws.specs.Tuples.{schema_tuples, tuples_in, saturated}
+use Rattle.grounding_defs.specs.Tuples.{schema_tuples, tuples_in, saturated}
 use Rattle.grounder.proofs.tuples.count_tuples.Given as goal
 
 abbrev pub invariant-loop-schema : goal.invariant-loop-schema

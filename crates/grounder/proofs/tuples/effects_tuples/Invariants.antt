@@ -1,6 +1,6 @@
 use Rattle.std.proofs.Common.{◌≡◌, ◌+◌, ◌-◌, ◌^◌, ◌≤◌, drop}
 use Rattle.std.specs.Prelude.{sum_by}
-use Rattle.grounding_laws.specs.Tuples.{effect_tuples, saturated}
+use Rattle.grounding_defs.specs.Tuples.{effect_tuples, saturated}
 use Rattle.grounder.proofs.tuples.effects_tuples.Given as goal
 
 abbrev pub invariant-loop-effect : goal.invariant-loop-effect

@@ -1,5 +1,5 @@
 use Rattle.std.proofs.Common.{◌≡◌, ◌*◌, ◌-◌, ◌^◌, ◌≤◌, drop}
-use Rattle.grounding_laws.specs.Tuples.{product_of, saturated}
+use Rattle.grounding_defs.specs.Tuples.{product_of, saturated}
 use Rattle.grounder.proofs.tuples.product_of.Given as goal
 
 abbrev pub invariant-loop-kind : goal.invariant-loop-kind

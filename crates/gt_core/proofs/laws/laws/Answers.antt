@@ -1,9 +1,9 @@
-use Rattle.gt_core.proofs.RunLaw.{runs_in_order}
-use Rattle.gt_core.proofs.EachOrder.{itself, each_order}
-use Rattle.gt_core.proofs.StepLaw.{step_of_one, step_of_none}
-use Rattle.gt_core.proofs.PublishedLaw.{published_keeps_apart}
-use Rattle.gt_core.proofs.UniqueLaw.{published_same, each_once}
-use Rattle.gt_core.proofs.SequenceLaw.{plan_runs}
+use Rattle.gt_core.proofs.published.RunLaw.{runs_in_order}
+use Rattle.gt_core.proofs.published.EachOrder.{itself, each_order}
+use Rattle.gt_core.proofs.published.StepLaw.{step_of_one, step_of_none}
+use Rattle.gt_core.proofs.published.PublishedLaw.{published_keeps_apart}
+use Rattle.gt_core.proofs.published.UniqueLaw.{published_same, each_once}
+use Rattle.gt_core.proofs.published.SequenceLaw.{plan_runs}
 use Rattle.gt_core.proofs.laws.laws.Goals as goal
 
 pub returns-clause-runs_in_order : goal.returns-clause-runs_in_order

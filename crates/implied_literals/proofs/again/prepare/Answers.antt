@@ -4,7 +4,7 @@ use Rattle.bit_sets.specs.Rows.{row_has}
 use Rattle.gt_core.specs.Task.{Action}
 use Rattle.implied_literals.specs.Tested.{act_at, IsSetOf}
 use Rattle.implied_literals.specs.Renewed.{is_unmoved}
-use Rattle.implied_literals.proofs.Unmoved.{tested_again}
+use Rattle.implied_literals.proofs.published.Unmoved.{tested_again}
 use Rattle.implied_literals.proofs.again.prepare.Goals as goal
 
 pub returns-clause-tested : goal.returns-clause-tested

@@ -1,9 +1,9 @@
 use Rattle.std.proofs.Common.{◌≡◌, ◌∙◌, ◌==◌, ◌*◌, inl, inr, ap, sym, subst, true, length, ℕ, List}
 use Rattle.bit_sets.specs.Rows.{row_has}
-use Rattle.gt_core.proofs.Basics.{cases}
+use Rattle.gt_core.proofs.published.Basics.{cases}
 use Rattle.implied_literals.specs.Rows.{row_at, clause_in, IsClosure}
 use Rattle.implied_literals.proofs.Renewing.{row_was, none_was}
-use Rattle.implied_literals.proofs.Steps.{nothing_in}
+use Rattle.implied_literals.proofs.published.Steps.{nothing_in}
 use Rattle.implied_literals.specs.Tested.{IsSetOf}
 use Rattle.implied_literals.proofs.again.renew_known.Goals as goal
 

@@ -1,11 +1,11 @@
 use Rattle.std.proofs.Common.{arith, ◌≡◌, ◌∙◌, ◌==◌, ◌||◌, ◌+◌, ◌<◌, ◌⊎◌, inl, inr, ap, sym, subst, Vec, Global, List, [], ◌∷◌, ◌++◌, length, Bool, true, ℕ}
 use Rattle.std.specs.List.{list_any, AllByRecursion}
 use Rattle.std.proofs.lemmas.List.{get_or_read}
-use Rattle.gt_core.proofs.Basics.{or_left, or_right, or_split, same_test}
+use Rattle.gt_core.proofs.published.Basics.{or_left, or_right, or_split, same_test}
 use Rattle.implied_literals.specs.Tested.{act_at}
 use Rattle.implied_literals.specs.Renewed.{is_unmoved}
-use Rattle.implied_literals.proofs.Lists.{all_joined}
-use Rattle.implied_literals.proofs.Steps.{any_push}
+use Rattle.implied_literals.proofs.published.Lists.{all_joined}
+use Rattle.implied_literals.proofs.published.Steps.{any_push}
 use Rattle.implied_literals.proofs.again.to_test.Goals as goal
 use Rattle.implied_literals.proofs.again.to_test.Goals.{then-not-is_unmoved+in_ok-push, else-not-is_unmoved}
 

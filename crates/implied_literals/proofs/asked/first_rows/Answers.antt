@@ -1,6 +1,6 @@
 use Rattle.std.proofs.Common.{rules, ◌≡◌, ◌<◌, ◌+◌, ℕ, List, true, false, subst, sym}
 use Rattle.bit_sets.specs.Rows.{row_has}
-use Rattle.gt_core.proofs.Lists.{pushed_each}
+use Rattle.gt_core.proofs.published.Lists.{pushed_each}
 use Rattle.implied_literals.specs.Rows.{row_at, HasNoPair}
 use Rattle.implied_literals.proofs.asked.first_rows.Goals as goal
 

@@ -3,7 +3,7 @@ use Rattle.std.proofs.lemmas.List.{get_or_read}
 use Rattle.std.proofs.lemmas.Bool.{cases_lt}
 use Rattle.bit_sets.specs.Rows.{row_has}
 use Rattle.gt_core.specs.Literal.{opposite}
-use Rattle.gt_core.proofs.Basics.{apart, or_left, or_right, or_split, and_split, and_both}
+use Rattle.gt_core.proofs.published.Basics.{apart, or_left, or_right, or_split, and_split, and_both}
 use Rattle.implied_literals.specs.Rows.{row_at, clause_in, IsChained, IsPart}
 use Rattle.implied_literals.proofs.Bounding.{next_too}
 use Rattle.implied_literals.proofs.bound.add_told.Goals as goal

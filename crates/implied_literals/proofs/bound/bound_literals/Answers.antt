@@ -3,10 +3,10 @@ use Rattle.std.proofs.lemmas.List.{get_or_read}
 use Rattle.std.proofs.lemmas.Bool.{cases_lt}
 use Rattle.bit_sets.specs.Rows.{row_has}
 use Rattle.gt_core.specs.Literal.{opposite}
-use Rattle.gt_core.proofs.Basics.{apart}
-use Rattle.gt_core.proofs.Literals.{opposite_twice}
+use Rattle.gt_core.proofs.published.Basics.{apart}
+use Rattle.gt_core.proofs.published.Literals.{opposite_twice}
 use Rattle.implied_literals.specs.Rows.{clause_in}
-use Rattle.implied_literals.proofs.Steps.{past_rows}
+use Rattle.implied_literals.proofs.published.Steps.{past_rows}
 use Rattle.implied_literals.proofs.bound.bound_literals.Goals as goal
 
 pub loop-l-preserved : goal.loop-l-preserved

@@ -1,6 +1,6 @@
 use Rattle.std.proofs.Common.{◌*◌}
 use Rattle.implied_literals.specs.Rows.{clause_in}
-use Rattle.implied_literals.proofs.Closing.{grown_twice}
+use Rattle.implied_literals.proofs.published.Closing.{grown_twice}
 use Rattle.implied_literals.proofs.close.close.Goals as goal
 
 pub follow-preserved : goal.follow-preserved

@@ -2,7 +2,7 @@ use Rattle.std.proofs.Common.{arith, ◌≡◌, ◌∙◌, ap, sym, subst, not, 
 use Rattle.std.proofs.lemmas.List.{get_or_read}
 use Rattle.bit_sets.specs.Rows.{row_has}
 use Rattle.implied_literals.specs.Rows.{row_at, clause_in}
-use Rattle.implied_literals.proofs.Closing.{follows_done}
+use Rattle.implied_literals.proofs.published.Closing.{follows_done}
 use Rattle.implied_literals.proofs.close.follow.Goals as goal
 
 pub returns-then-is_done : goal.returns-then-is_done

@@ -1,8 +1,8 @@
 use Rattle.std.proofs.Common.{◌≡◌, ◌∙◌, ◌*◌, ap, not, ◌&&◌, ◌||◌, Bool, ℕ, List}
 use Rattle.bit_sets.specs.Rows.{row_has}
-use Rattle.gt_core.proofs.Basics.{apart}
+use Rattle.gt_core.proofs.published.Basics.{apart}
 use Rattle.implied_literals.specs.Rows.{clause_in, IsChained, IsPart}
-use Rattle.implied_literals.proofs.Closing.{grown_all, growing_all, less_all}
+use Rattle.implied_literals.proofs.published.Closing.{grown_all, growing_all, less_all}
 use Rattle.implied_literals.proofs.close.follow_all.Goals as goal
 
 pub returns : goal.returns

@@ -3,7 +3,7 @@ use Rattle.std.specs.List.{list_any}
 use Rattle.std.proofs.Math.Bool.{or_assoc}
 use Rattle.std.proofs.lemmas.List.{get_or_read, at_drop_more}
 use Rattle.bit_sets.specs.Rows.{row_has}
-use Rattle.gt_core.proofs.Lists.{each_number}
+use Rattle.gt_core.proofs.published.Lists.{each_number}
 use Rattle.implied_literals.specs.Rows.{row_at}
 use Rattle.implied_literals.proofs.known.fill_with.Goals as goal
 

@@ -2,7 +2,7 @@ use Rattle.std.proofs.Common.{◌≡◌, ◌∙◌, ◌&&◌, inl, inr, ap, sym,
 use Rattle.std.proofs.lemmas.List.{get_or_read}
 use Rattle.std.proofs.lemmas.Bool.{cases_lt}
 use Rattle.bit_sets.specs.Rows.{row_has}
-use Rattle.gt_core.proofs.Basics.{apart, or_left, or_right, and_split, and_both}
+use Rattle.gt_core.proofs.published.Basics.{apart, or_left, or_right, and_split, and_both}
 use Rattle.implied_literals.specs.Rows.{clause_in}
 use Rattle.implied_literals.proofs.Bounding.{next_too}
 use Rattle.implied_literals.proofs.renew.add_partners.Goals as goal

@@ -2,8 +2,8 @@ use Rattle.std.proofs.Common.{arith, ◌∙◌, ◌&&◌, ◌<◌, ap, not, subs
 use Rattle.std.proofs.lemmas.Bool.{OnTrue_at}
 use Rattle.bit_sets.specs.Rows.{row_has}
 use Rattle.gt_core.specs.Literal.{opposite}
-use Rattle.gt_core.proofs.Basics.{apart, and_both}
-use Rattle.implied_literals.proofs.Steps.{nothing_in, opposite_below}
+use Rattle.gt_core.proofs.published.Basics.{apart, and_both}
+use Rattle.implied_literals.proofs.published.Steps.{nothing_in, opposite_below}
 use Rattle.implied_literals.proofs.renew.none_follows.Goals as goal
 
 pub has_fewer-requires-clause-one : goal.has_fewer-requires-clause-one

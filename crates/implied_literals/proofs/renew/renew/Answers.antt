@@ -3,7 +3,7 @@ use Rattle.bit_sets.specs.Rows.{row_has}
 use Rattle.gt_core.specs.Literal.{opposite}
 use Rattle.implied_literals.specs.Rows.{clause_in, HasNoPair}
 use Rattle.implied_literals.proofs.Renewing.{same_closed, pair_closed}
-use Rattle.gt_core.proofs.Basics.{cases, and_both}
+use Rattle.gt_core.proofs.published.Basics.{cases, and_both}
 use Rattle.implied_literals.proofs.renew.renew.Goals as goal
 
 pub returns-then-is_same : goal.returns-then-is_same

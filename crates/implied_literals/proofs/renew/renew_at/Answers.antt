@@ -3,7 +3,7 @@ use Rattle.std.specs.Prelude.{if◌then◌else◌}
 use Rattle.bit_sets.specs.Rows.{row_has}
 use Rattle.implied_literals.specs.Rows.{row_at, clause_in, IsClosure}
 use Rattle.implied_literals.specs.Renewed.{WasTold}
-use Rattle.gt_core.proofs.Basics.{apart, same_test}
+use Rattle.gt_core.proofs.published.Basics.{apart, same_test}
 use Rattle.implied_literals.proofs.renew.renew_at.Goals as goal
 
 pub returns-in_ok-insert-clause-closure : goal.returns-in_ok-insert-clause-closure

@@ -6,7 +6,7 @@ use Rattle.implied_literals.specs.Rows.{row_at, clause_in, HasNoPair, IsClosure}
 use Rattle.implied_literals.specs.Renewed.{WasClosed}
 use Rattle.implied_literals.proofs.Renewing.{untouched_closed, was_closed, first_closed}
 use Rattle.gt_core.specs.Literal.{opposite}
-use Rattle.gt_core.proofs.Basics.{or_split, test_same}
+use Rattle.gt_core.proofs.published.Basics.{or_split, test_same}
 use Rattle.implied_literals.proofs.renew.renew_row.Goals as goal
 
 pub returns-then-is_untouched : goal.returns-then-is_untouched

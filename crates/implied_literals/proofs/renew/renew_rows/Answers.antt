@@ -1,7 +1,7 @@
 use Rattle.std.proofs.Common.{arith, ◌≡◌, ◌∙◌, ◌==◌, ◌*◌, ◌<◌, ◌⊎◌, inl, inr, subst, sym, true, false, Bool, ℕ, List}
 use Rattle.std.proofs.lemmas.Bool.{cases_lt}
 use Rattle.bit_sets.specs.Rows.{row_has}
-use Rattle.gt_core.proofs.Basics.{apart}
+use Rattle.gt_core.proofs.published.Basics.{apart}
 use Rattle.implied_literals.specs.Rows.{row_at, clause_in, IsClosure}
 use Rattle.implied_literals.specs.Renewed.{WasTold}
 use Rattle.implied_literals.proofs.Renewing.{one_more_closed}

@@ -1,7 +1,7 @@
 use Rattle.std.proofs.Common.{◌∙◌, ap, sym, ◌||◌, ◌==◌, Bool, ℕ, List}
 use Rattle.bit_sets.specs.Rows.{row_has}
 use Rattle.implied_literals.specs.Rows.{clause_in}
-use Rattle.implied_literals.proofs.Steps.{more_below, same_below}
+use Rattle.implied_literals.proofs.published.Steps.{more_below, same_below}
 use Rattle.implied_literals.proofs.renew.single_clauses.Goals as goal
 use Rattle.implied_literals.proofs.renew.single_clauses.Goals.{then-is_single+in_ok-insert, else-is_single}
 

@@ -2,7 +2,7 @@ use Rattle.std.proofs.Common.{◌≡◌, ◌-◌, ◌++◌, List, length}
 use Rattle.pl_io.specs.Outside.{Heard, Agrees}
 use Rattle.requests.specs.Seen.{seen, files_of}
 use Rattle.input_files.specs.Limits.{file_at}
-use Rattle.input_files.proofs.Taking.{SoFar}
+use Rattle.input_files.proofs.published.Taking.{SoFar}
 use Rattle.input_files.proofs.take.take_all.Given as goal
 
 abbrev pub invariant-taking : goal.invariant-taking

@@ -2,7 +2,7 @@ use Rattle.std.proofs.Common.{◌∷◌, [], List, ℕ, subst}
 use Rattle.requests.specs.Seen.{grounds}
 use Rattle.input_files.specs.Limits.{file_at}
 use Rattle.input_files.specs.Files.{IsWhole, NotesAmong}
-use Rattle.input_files.proofs.Taking.{taken_short, kept_count}
+use Rattle.input_files.proofs.published.Taking.{taken_short, kept_count}
 use Rattle.judge_top.specs.Seen.{seen}
 use Rattle.judge_top.specs.Answers.{tape_run}
 use Rattle.judge_top.proofs.Deciding.{both_taken, stops_for, taken_for, two_named}

@@ -1,7 +1,7 @@
 use Rattle.std.proofs.Common.{◌∙◌, ℕ, sym, ap}
 use Rattle.clause_base.specs.Formula.{Cnf}
 use Rattle.sat_text.specs.Values.{Values, model_of}
-use Rattle.sat_text.proofs.ValueReading.{values_are}
+use Rattle.sat_text.proofs.published.ValueReading.{values_are}
 use Rattle.judge_top.specs.Answers.{tape_run}
 use Rattle.judge_top.proofs.model.told_of.Goals as goal
 

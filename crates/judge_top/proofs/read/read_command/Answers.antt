@@ -1,7 +1,7 @@
 use Rattle.std.proofs.Common.{List, Some, ap, sym, subst, map, string_bytes}
 use Rattle.clap.specs.Words.{App, app_of, found_of, rows_of}
 use Rattle.clap.specs.Walk.{Row}
-use Rattle.requests.proofs.Commands.{asked, unasked}
+use Rattle.requests.proofs.published.Commands.{asked, unasked}
 use Rattle.requests.specs.Fit.{IsFit}
 use Rattle.requests.specs.Passed.{Passed}
 use Rattle.judge_top.specs.Command.{command_of, steps_list}

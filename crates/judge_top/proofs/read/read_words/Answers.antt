@@ -1,6 +1,6 @@
 use Rattle.std.proofs.Common.{◌∙◌, refl, sym, ap, option_copied, option_and_then, map, string_bytes}
 use Rattle.judge_top.specs.Command.{named}
-use Rattle.requests.proofs.Commands.{by_first, no_words}
+use Rattle.requests.proofs.published.Commands.{by_first, no_words}
 use Rattle.judge_top.specs.Requested.{command_named, requested_of}
 use Rattle.judge_top.proofs.read.read_words.Goals as goal
 

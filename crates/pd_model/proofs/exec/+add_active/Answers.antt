@@ -2,8 +2,8 @@ use Rattle.std.proofs.Common.{◌++◌, length, sym, refl}
 use Rattle.std.proofs.lemmas.List.{take_all, get_or_default}
 use Rattle.pd_model.specs.Exec.{active_at}
 use Rattle.pd_model.specs.Fits.{tuples, fitting}
-use Rattle.pd_model.specs.Variables.{effect_names}
-use Rattle.pd_model.proofs.Walks.{by_first, for_none, popped}
+use Rattle.pd_model.specs.own.Variables.{effect_names}
+use Rattle.pd_model.proofs.published.Walks.{by_first, for_none, popped}
 use Rattle.pd_model.proofs.Tried.{one_more, tried_all}
 use Rattle.pd_model.proofs.exec.+add_active.Goals as goal
 

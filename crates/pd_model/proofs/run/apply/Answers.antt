@@ -1,4 +1,4 @@
-use Rattle.pd_model.proofs.States.{stepped_alike}
+use Rattle.pd_model.proofs.published.States.{stepped_alike}
 use Rattle.pd_model.specs.Exec.{gains, deletes}
 use Rattle.pd_model.proofs.run.apply.Goals as goal
 

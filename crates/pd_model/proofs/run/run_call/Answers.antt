@@ -1,6 +1,6 @@
 use Rattle.std.proofs.Common.{◌∙◌, sym}
 use Rattle.pd_model.proofs.Alike.{call_runs, call_stops}
-use Rattle.pd_model.proofs.Reading.{read_at}
+use Rattle.pd_model.proofs.published.Reading.{read_at}
 use Rattle.pd_model.proofs.run.run_call.Goals as goal
 
 pub returns-then-not-branch : goal.returns-then-not-branch

@@ -1,7 +1,7 @@
 use Rattle.std.proofs.Common.{◌≡◌, length, subst, replicate, arith, rules}
 use Rattle.std.proofs.lemmas.List.{length-map, get_or_read}
 use Rattle.pd_model.specs.Types.{parents_of}
-use Rattle.pd_model.specs.Walk.{AreChains}
+use Rattle.pd_model.specs.own.Walk.{AreChains}
 use Rattle.pd_model.proofs.TypeWalk.{no_chains, chains_more}
 use Rattle.pd_model.proofs.walk.chain_children.Goals as goal
 

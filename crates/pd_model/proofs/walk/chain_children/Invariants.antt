@@ -1,5 +1,5 @@
 use Rattle.pd_model.specs.Types.{parents_of}
-use Rattle.pd_model.specs.Walk.{AreChains}
+use Rattle.pd_model.specs.own.Walk.{AreChains}
 use Rattle.pd_model.proofs.walk.chain_children.Given as goal
 
 abbrev pub invariant-loop-kind : goal.invariant-loop-kind

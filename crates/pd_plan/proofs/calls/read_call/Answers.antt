@@ -10,7 +10,7 @@ use Rattle.pd_model.specs.declared.schemas.Schema.{Schema}
 use Rattle.pd_words.specs.First.{◌>>=◌, FailsWith}
 use Rattle.pd_words.specs.Names.{number_of}
 use Rattle.pd_words.specs.declared.named.Named.{Named}
-use Rattle.pd_plan.specs.Answers.{fault_of}
+use Rattle.pd_plan.specs.own.Answers.{fault_of}
 use Rattle.pd_plan.specs.Fault.{Fault, arity}
 use Rattle.pd_plan.specs.PlanFile.{arguments, call_of}
 use Rattle.pd_plan.specs.declared.lists.WordList.{WordList}

@@ -1,6 +1,6 @@
 use Rattle.std.proofs.lemmas.Result.{err_from_is_err_and}
-use Rattle.pd_plan.specs.Answers.{fault_of}
-use Rattle.pd_plan.specs.Reader.{state_of}
+use Rattle.pd_plan.specs.own.Answers.{fault_of}
+use Rattle.pd_plan.specs.own.Reader.{state_of}
 use Rattle.pd_plan.proofs.Steps.{fails_there, reached_next}
 use Rattle.pd_plan.proofs.lists.read_lists.Goals as goal
 

@@ -1,4 +1,4 @@
-use Rattle.pd_plan.specs.Reader.{state_of}
+use Rattle.pd_plan.specs.own.Reader.{state_of}
 use Rattle.pd_plan.proofs.Steps.{Reached}
 use Rattle.pd_plan.proofs.lists.read_lists.Given as goal
 

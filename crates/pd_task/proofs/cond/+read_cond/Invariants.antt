@@ -1,7 +1,7 @@
 use Rattle.std.proofs.Common.{◌≡◌, drop}
 use Rattle.pd_sexp.specs.View.{view, views}
 use Rattle.pd_task.specs.Atoms.{conditions}
-use Rattle.pd_task.specs.Scope.{names_with}
+use Rattle.pd_task.specs.own.Scope.{names_with}
 use Rattle.pd_task.proofs.Sizes.{tree_size}
 use Rattle.pd_task.proofs.cond.+read_cond.Given as goal
 

@@ -3,7 +3,7 @@ use Rattle.pd_sexp.specs.View.{view, views}
 use Rattle.pd_task.proofs.Sizes.{item_smaller, body_smaller}
 use Rattle.pd_task.proofs.Ands.{effects_listed, item_read, and_fails, and_ends}
 use Rattle.pd_model.specs.Sameness.{Under}
-use Rattle.pd_model.proofs.Marks.{same_under}
+use Rattle.pd_model.proofs.published.Marks.{same_under}
 use Rattle.pd_words.specs.Standing.{Standing}
 use Rattle.pd_task.proofs.Foralls.{forall_fails, forall_ends, leaves, on_ok}
 use Rattle.pd_task.proofs.effects.+read_effect.Goals as goal

@@ -1,7 +1,7 @@
 use Rattle.std.proofs.Common.{◌≡◌, drop}
 use Rattle.pd_sexp.specs.View.{view, views}
 use Rattle.pd_task.specs.Effects.{all_literals}
-use Rattle.pd_task.specs.Scope.{site_of}
+use Rattle.pd_task.specs.own.Scope.{site_of}
 use Rattle.pd_task.proofs.Sizes.{tree_size}
 use Rattle.pd_task.proofs.effects.+read_literals.Given as goal
 

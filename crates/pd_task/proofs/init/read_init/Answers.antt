@@ -1,6 +1,6 @@
 use Rattle.std.proofs.Common.{[]}
 use Rattle.pd_task.specs.Declarations.{and_init}
-use Rattle.pd_task.specs.Scope.{names_with}
+use Rattle.pd_task.specs.own.Scope.{names_with}
 use Rattle.pd_task.proofs.Ands.{each_is, item_read, item_handed_on}
 use Rattle.pd_task.proofs.init.read_init.Goals as goal
 

@@ -2,7 +2,7 @@ use Rattle.std.proofs.Common.{◌≡◌, [], drop}
 use Rattle.pd_sexp.specs.View.{views}
 use Rattle.pd_words.specs.First.{each}
 use Rattle.pd_task.specs.Declarations.{and_init}
-use Rattle.pd_task.specs.Scope.{names_with}
+use Rattle.pd_task.specs.own.Scope.{names_with}
 use Rattle.pd_task.proofs.init.read_init.Given as goal
 
 abbrev pub invariant-loop-item : goal.invariant-loop-item

@@ -2,7 +2,7 @@ use Rattle.std.proofs.Common.{◌≡◌, drop}
 use Rattle.pd_sexp.specs.View.{views}
 use Rattle.pd_words.specs.First.{every, after}
 use Rattle.pd_task.specs.Atoms.{term}
-use Rattle.pd_task.specs.Scope.{names_with}
+use Rattle.pd_task.specs.own.Scope.{names_with}
 use Rattle.pd_task.proofs.terms.read_terms.Given as goal
 
 abbrev pub invariant-loop-tree : goal.invariant-loop-tree

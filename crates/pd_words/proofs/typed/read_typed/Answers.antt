@@ -1,7 +1,7 @@
 use Rattle.std.proofs.Common.{◌≡◌, ◌==◌, length, true, sym, ◌∙◌, arith}
 use Rattle.std.proofs.lemmas.Bool.Decides.{nat_tests}
 use Rattle.std.proofs.lemmas.List.{nil_from_length}
-use Rattle.pd_sexp.proofs.Views.{view-List, view-Word}
+use Rattle.pd_sexp.proofs.published.Views.{view-List, view-Word}
 use Rattle.pd_words.proofs.typed.read_typed.Goals as goal
 
 pub returns-in-List : goal.returns-in-List

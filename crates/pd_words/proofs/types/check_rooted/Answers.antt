@@ -1,5 +1,5 @@
 use Rattle.std.proofs.Common.{◌≡◌, true, sym, ◌∙◌, arith, rules}
-use Rattle.pd_words.proofs.TypeLemmas.{rooted_more}
+use Rattle.pd_words.proofs.published.TypeLemmas.{rooted_more}
 use Rattle.pd_words.proofs.types.check_rooted.Goals as goal
 
 pub loop-place-preserved : goal.loop-place-preserved

@@ -3,9 +3,9 @@ use Rattle.pd_sexp.specs.View.{views}
 use Rattle.pd_model.specs.declared.types.TypeDecl.{TypeDecl}
 use Rattle.pd_words.specs.Types.{declared_from, only_object, with_parents, number_in, types_under, types_of}
 use Rattle.pd_words.specs.Types as types
-use Rattle.pd_words.specs.TypeList.{declared}
-use Rattle.pd_words.proofs.Sound.{ok_is}
-use Rattle.pd_words.proofs.TypeLemmas.{declared_counted, lawful, size_is, parents_grow, under_names}
+use Rattle.pd_words.specs.own.TypeList.{declared}
+use Rattle.pd_words.proofs.published.Sound.{ok_is}
+use Rattle.pd_words.proofs.published.TypeLemmas.{declared_counted, lawful, size_is, parents_grow, under_names}
 use Rattle.pd_words.proofs.types.read_types.Goals as goal
 
 same_decls : (d : types.Declared) (names parents : List (List ℕ)) (decls : List TypeDecl) → names ≡ with_parents d.names d.parents → parents ≡ d.parents

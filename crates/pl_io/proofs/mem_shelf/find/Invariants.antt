@@ -1,5 +1,5 @@
 use Rattle.std.proofs.Common.{◌≡◌, drop}
-use Rattle.pl_io.specs.MemShelf.{bytes_at}
+use Rattle.pl_io.specs.own.MemShelf.{bytes_at}
 use Rattle.pl_io.proofs.mem_shelf.find.Given as goal
 
 abbrev pub invariant-loop-file : goal.invariant-loop-file

@@ -1,5 +1,5 @@
 use Rattle.std.proofs.Common.{◌≡◌, ◌+◌, map, drop}
-use Rattle.race_end.specs.Ends.{line_view, conflicts_in}
+use Rattle.race_outcome.specs.Ends.{line_view, conflicts_in}
 use Rattle.plan_report.proofs.horizons.conflicts_of.Given as goal
 
 abbrev pub invariant-loop-line : goal.invariant-loop-line

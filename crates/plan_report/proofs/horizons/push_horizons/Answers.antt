@@ -1,5 +1,5 @@
 use Rattle.std.proofs.lemmas.List.Elements.{All-map}
-use Rattle.race_end.specs.Ends.{line_view}
+use Rattle.race_outcome.specs.Ends.{line_view}
 use Rattle.plan_report.specs.Laws.{IsSmallLine}
 use Rattle.std.proofs.Common.{arith}
 use Rattle.plan_report.proofs.horizons.push_horizons.Goals as goal

@@ -2,8 +2,8 @@ use Rattle.std.proofs.Common.{◌≡◌, ◌<◌, ℕ, ◌++◌, ◌∷◌, [], 
 use Rattle.std.specs.List.{flat_map}
 use Rattle.report_lines.specs.Lines.{joined}
 use Rattle.report_lines.specs.Horizons.{entry_line}
-use Rattle.race_end.specs.declared.line.Line.{Line}
-use Rattle.race_end.specs.Ends.{line_view}
+use Rattle.race_outcome.specs.declared.line.Line.{Line}
+use Rattle.race_outcome.specs.Ends.{line_view}
 use Rattle.plan_report.specs.Report.{entry_of}
 use Rattle.plan_report.specs.Laws.{IsSmallLine}
 use Rattle.plan_report.proofs.horizons.push_horizons.Given as goal

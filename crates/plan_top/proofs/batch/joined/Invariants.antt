@@ -1,7 +1,7 @@
 use Rattle.std.proofs.Common.{◌≡◌, ◌+◌, ◌++◌, List, length}
 use Rattle.plan_endings.specs.Growing.{Has}
 use Rattle.plan_endings.specs.declared.ending.Ending.{Ending}
-use Rattle.plan_top.specs.Parts.{open_in, woven}
+use Rattle.plan_top.specs.own.Parts.{open_in, woven}
 use Rattle.plan_top.proofs.batch.joined.Given as goal
 
 abbrev pub invariant-loop-end : goal.invariant-loop-end

@@ -1,5 +1,5 @@
 use Rattle.std.proofs.lemmas.Result.{IfOk-weaker}
-use Rattle.plan_answers.specs.Raced.{ended}
+use Rattle.commands.specs.Raced.{ended}
 use Rattle.plan_top.proofs.batch.report_of.Goals as goal
 
 pub returns-in-Ok-clause-report : goal.returns-in-Ok-clause-report

@@ -1,6 +1,6 @@
 use Rattle.std.proofs.Common.{arith}
-use Rattle.plan_top.specs.Parts.{CameTo, AnswersRun}
-use Rattle.poll_batch.proofs.Whole.{zip-pushed}
+use Rattle.plan_top.specs.own.Parts.{CameTo, AnswersRun}
+use Rattle.poll_batch.proofs.published.Whole.{zip-pushed}
 use Rattle.plan_top.proofs.Lists.{zip_here, zip_length}
 use Rattle.plan_top.proofs.batch.reports_of.Goals as goal
 

@@ -1,6 +1,6 @@
 use Rattle.std.proofs.Common.{take}
 use Rattle.std.specs.List.{AllZip}
-use Rattle.plan_top.specs.Parts.{AnswersRun}
+use Rattle.plan_top.specs.own.Parts.{AnswersRun}
 use Rattle.plan_top.proofs.batch.reports_of.Given as goal
 
 abbrev pub invariant-loop-place : goal.invariant-loop-place

@@ -9,11 +9,11 @@ use Rattle.requests.specs.declared.request.Request.TheVariants.{Plan, Check, Gro
 use Rattle.input_files.specs.Limits.{file_at}
 use Rattle.input_files.specs.Files.{AreTaken, AreTakenOrLong, FaultsFrom, StopsFrom}
 use Rattle.plan_top.specs.Causes.{Comes, of_one, stopped}
-use Rattle.plan_top.specs.Parts.{IsBatch, AnswersBatch}
+use Rattle.plan_top.specs.own.Parts.{IsBatch, AnswersBatch}
 use Rattle.plan_top.proofs.Batches.{files_fit, request_comes, request_unread}
 use Rattle.plan_top.proofs.Told.{taken_comes}
-use Rattle.input_files.proofs.Hearing.{handed_once}
-use Rattle.input_files.proofs.Stopped.{EndsAs-handed, EndsAs-weaker}
+use Rattle.input_files.proofs.published.Hearing.{handed_once}
+use Rattle.input_files.proofs.published.Stopped.{EndsAs-handed, EndsAs-weaker}
 use Rattle.plan_top.proofs.decide.decide_request.Goals as goal
 
 -- the request of an arm: a batch, or else one of one task

@@ -1,4 +1,4 @@
-use Rattle.plan_answers.specs.Tasks.{not_grounded}
+use Rattle.commands.specs.Tasks.{not_grounded}
 use Rattle.plan_top.proofs.parts.part_with.Goals as goal
 
 pub returns-in-Err-Ends-clause-part : goal.returns-in-Err-Ends-clause-part

@@ -1,5 +1,5 @@
 use Rattle.std.proofs.Common.{◌≡◌, ◌+◌, ◌++◌, ◌∷◌, [], List, Option, ℕ, take, add-one, sym, subst}
-use Rattle.plan_top.specs.Parts.{ArePrepared}
+use Rattle.plan_top.specs.own.Parts.{ArePrepared}
 use Rattle.plan_top.proofs.Lists.{take_more}
 use Rattle.plan_top.proofs.parts.parts_of.Goals as goal
 

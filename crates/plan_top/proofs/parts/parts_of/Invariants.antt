@@ -1,5 +1,5 @@
 use Rattle.std.proofs.Common.{take}
-use Rattle.plan_top.specs.Parts.{IsFirst, HasWords, ArePrepared}
+use Rattle.plan_top.specs.own.Parts.{IsFirst, HasWords, ArePrepared}
 use Rattle.plan_top.proofs.parts.parts_of.Given as goal
 
 abbrev pub invariant-loop-problem : goal.invariant-loop-problem

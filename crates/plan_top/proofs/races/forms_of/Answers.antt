@@ -1,5 +1,5 @@
-use Rattle.plan_top.specs.Parts.{IsSound, IsFormOf}
-use Rattle.poll_batch.proofs.Whole.{all-here, zip-pushed}
+use Rattle.plan_top.specs.own.Parts.{IsSound, IsFormOf}
+use Rattle.poll_batch.proofs.published.Whole.{all-here, zip-pushed}
 use Rattle.plan_top.proofs.races.forms_of.Goals as goal
 
 pub form_of-requires : goal.form_of-requires

@@ -1,6 +1,6 @@
 use Rattle.std.proofs.Common.{◌≡◌, ℕ, false, refl, sym, subst, arith}
 use Rattle.poll_batch.specs.Batch.{IsOrder}
-use Rattle.plan_top.specs.Parts.{IsRaceOf}
+use Rattle.plan_top.specs.own.Parts.{IsRaceOf}
 use Rattle.plan_top.proofs.Lists.{zip_length, zip_right}
 use Rattle.plan_top.proofs.RaceEnds.{all_came}
 use Rattle.plan_top.proofs.races.raced_all.Goals as goal

@@ -1,8 +1,8 @@
 use Rattle.std.proofs.Common.{arith, ◌∙◌, ap, sym, subst}
 use Rattle.step_laws.specs.Form.{OrderedTask}
-use Rattle.plan_top.specs.Parts.{IsFormOf, IsRaceOf}
+use Rattle.plan_top.specs.own.Parts.{IsFormOf, IsRaceOf}
 use Rattle.plan_top.specs.declared.parts.Run.{Run}
-use Rattle.poll_batch.proofs.Whole.{zip-pushed}
+use Rattle.poll_batch.proofs.published.Whole.{zip-pushed}
 use Rattle.plan_top.proofs.Lists.{zip_here, zip_length}
 use Rattle.plan_top.proofs.races.races_of.Goals as goal
 

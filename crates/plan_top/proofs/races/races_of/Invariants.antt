@@ -1,6 +1,6 @@
 use Rattle.std.proofs.Common.{take}
 use Rattle.std.specs.List.{AllZip}
-use Rattle.plan_top.specs.Parts.{IsRaceOf}
+use Rattle.plan_top.specs.own.Parts.{IsRaceOf}
 use Rattle.plan_top.proofs.races.races_of.Given as goal
 
 abbrev pub invariant-loop-place : goal.invariant-loop-place

@@ -1,7 +1,7 @@
 use Rattle.std.proofs.Common.{◌≡◌, Some, ap, refl, sym, arith, map, string_bytes, Result}
 use Rattle.input_files.specs.declared.stop.Stop.{Stop}
 use Rattle.input_files.specs.Ends.{EndsAs, ending_in}
-use Rattle.input_files.proofs.Stopped.{ending_answers}
+use Rattle.input_files.proofs.published.Stopped.{ending_answers}
 use Rattle.plan_endings.specs.declared.ending.Ending.{Ending}
 use Rattle.plan_top.proofs.Promises.{status_apart, plan_runs, refuted_steps, refuted_plans, least, unfinished, lines, ground_told, order_told, reached, read_fault, usage, not_taken, no_command, same_report, complete, certified, verified, accepted, rejected, batch, parts_are_so, as_alone, not_reached, exhausted, found_steps, every_order_runs, proved_plan, passes, proves_refuted, proves_found}
 use Rattle.plan_top.proofs.top.run.Goals as goal

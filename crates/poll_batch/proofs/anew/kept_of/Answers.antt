@@ -1,6 +1,6 @@
 use Rattle.std.proofs.Common.{◌≡◌, ◌∙◌, sym, ap}
 use Rattle.poll_batch.specs.Batch.{IsFormed, IsKeptOf}
-use Rattle.poll_batch.proofs.Whole.{zip-pushed, all-pushed}
+use Rattle.poll_batch.proofs.published.Whole.{zip-pushed, all-pushed}
 use Rattle.poll_batch.proofs.anew.kept_of.Goals as goal
 
 pub loop-race-preserved : goal.loop-race-preserved

@@ -1,6 +1,6 @@
 use Rattle.std.proofs.Common.{rules}
 use Rattle.poll_batch.specs.Batch.{IsFormed, KeptGives}
-use Rattle.poll_batch.proofs.Whole.{whole, all-here, zip-pushed}
+use Rattle.poll_batch.proofs.published.Whole.{whole, all-here, zip-pushed}
 use Rattle.poll_batch.proofs.anew.run_anew.Goals as goal
 
 pub race-requires : goal.race-requires

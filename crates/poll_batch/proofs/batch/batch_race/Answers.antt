@@ -2,8 +2,8 @@ use Rattle.std.proofs.Common.{sym, subst, ◌∙◌}
 use Rattle.std.specs.List.{AllZip}
 use Rattle.poll_batch.specs.View.{Gives}
 use Rattle.poll_batch.specs.Batch.{IsKeptOf, KeptGives}
-use Rattle.poll_batch.proofs.Whole.{anew}
-use Rattle.poll_run.proofs.Slots.{zip-then}
+use Rattle.poll_batch.proofs.published.Whole.{anew}
+use Rattle.poll_run.proofs.published.Slots.{zip-then}
 use Rattle.poll_batch.proofs.batch.batch_race.Goals as goal
 
 pub returns-in-Err-Driver-clause-ends : goal.returns-in-Err-Driver-clause-ends

@@ -6,8 +6,8 @@ use Rattle.horizon_run.specs.Run.{RunView, moved_to}
 use Rattle.poll_run.specs.Polls.{Polling}
 use Rattle.race.specs.Runs.{run_at}
 use Rattle.poll_batch.specs.declared.work.Work.{Work}
-use Rattle.poll_batch.specs.Works.{at_targets, IsAtWork}
-use Rattle.race.proofs.Starts.{all-push}
+use Rattle.poll_batch.specs.own.Works.{at_targets, IsAtWork}
+use Rattle.race.proofs.published.Starts.{all-push}
 use Rattle.poll_batch.proofs.Lists.{targets-push}
 use Rattle.poll_batch.proofs.work.works_of.Goals as goal
 

@@ -1,7 +1,7 @@
 use Rattle.std.proofs.Common.{◌≡◌, ◌++◌, map, false}
 use Rattle.std.specs.List.{AllByRecursion}
 use Rattle.race.specs.Runs.{run_at}
-use Rattle.poll_batch.specs.Works.{at_targets, AreAtWork}
+use Rattle.poll_batch.specs.own.Works.{at_targets, AreAtWork}
 use Rattle.poll_batch.proofs.work.works_of.Given as goal
 
 abbrev pub invariant-loop-job : goal.invariant-loop-job

@@ -1,7 +1,7 @@
 use Rattle.std.proofs.Common.{arith, rules, ◌≡◌, ◌==◌, ◌<◌, ◌≤◌, ◌-◌, Bool, true, false, ℕ, length, slice_index_or, refl, sym, ap, subst}
 use Rattle.futures.specs.Joined.{IsLive, MayGive}
-use Rattle.poll_run.specs.Turns.{Falls, slot_left}
-use Rattle.poll_run.proofs.Slots.{all-set, zip-set}
+use Rattle.poll_run.specs.own.Turns.{Falls, slot_left}
+use Rattle.poll_run.proofs.published.Slots.{all-set, zip-set}
 use Rattle.poll_run.proofs.Falls.{falls_not, falls_more, falls_here, fell_more}
 use Rattle.poll_run.proofs.in_turns.poll_each.Goals as goal
 

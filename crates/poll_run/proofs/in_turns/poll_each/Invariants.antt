@@ -2,7 +2,7 @@ use Rattle.std.proofs.Common.{◌≡◌, ◌<◌, ℕ, length, slice_index_or}
 use Rattle.std.specs.List.{AllByRecursion}
 use Rattle.futures.specs.Task.{Keeps}
 use Rattle.futures.specs.Joined.{IsLive}
-use Rattle.poll_run.specs.Turns.{Narrows, Falls}
+use Rattle.poll_run.specs.own.Turns.{Narrows, Falls}
 use Rattle.poll_run.proofs.in_turns.poll_each.Given as goal
 
 abbrev pub invariant-loop-turn : goal.invariant-loop-turn

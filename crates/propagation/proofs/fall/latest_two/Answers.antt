@@ -1,6 +1,6 @@
 use Rattle.std.proofs.Common.{arith, ◌≡◌, ◌∙◌, ℕ, length, get_or, subst}
 use Rattle.std.proofs.lemmas.List.{get_or_read}
-use Rattle.propagation.specs.Latest.{IsFreeUntil, AreLatest}
+use Rattle.propagation.specs.own.Latest.{IsFreeUntil, AreLatest}
 use Rattle.propagation.proofs.fall.latest_two.Goals as goal
 
 pub loop-place-init : goal.loop-place-init

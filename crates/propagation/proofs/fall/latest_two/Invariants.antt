@@ -1,5 +1,5 @@
 use Rattle.std.proofs.Common.{◌≤◌, length}
-use Rattle.propagation.specs.Latest.{AreLatest}
+use Rattle.propagation.specs.own.Latest.{AreLatest}
 use Rattle.propagation.proofs.fall.latest_two.Given as goal
 
 abbrev pub invariant-loop-place : goal.invariant-loop-place

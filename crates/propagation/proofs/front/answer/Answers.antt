@@ -1,11 +1,11 @@
 use Rattle.std.proofs.Common.{◌≡◌, ◌*◌, ◌<◌, ℕ, List, [], ◌∷◌, ◌∙◌, ap, sym, not, Bool, true, false, ◌&&◌, get_or}
 use Rattle.clause_base.specs.Clause.{has_literal}
-use Rattle.cdcl_rules.specs.Event.{asked}
-use Rattle.cdcl_rules.specs.Pending.{is_pending, open_ones}
-use Rattle.cdcl_rules.specs.State.{clause_at}
+use Rattle.cdcl_defs.specs.Event.{asked}
+use Rattle.cdcl_defs.specs.Pending.{is_pending, open_ones}
+use Rattle.cdcl_defs.specs.State.{clause_at}
 use Rattle.propagation.specs.Front.{asked_at}
 use Rattle.propagation.specs.Pending.{is_free}
-use Rattle.propagation.specs.Tables.{pending_in}
+use Rattle.propagation.specs.own.Tables.{pending_in}
 use Rattle.propagation.proofs.Asks.{ask_true, ask_open, ask_left, ask_none, ask_below, ask_empty}
 use Rattle.propagation.proofs.Filters.{pending_at}
 use Rattle.propagation.proofs.front.answer.Goals as goal

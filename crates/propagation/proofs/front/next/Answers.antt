@@ -2,9 +2,9 @@ use Rattle.std.proofs.Common.{arith, ℕ, ◌&&◌, Bool, ap, sym, subst}
 use Rattle.std.proofs.lemmas.List.{get_or_read}
 use Rattle.clause_base.specs.Clause.{has_literal}
 use Rattle.bit_sets.specs.Layered.{words_have}
-use Rattle.cdcl_rules.specs.State.{clause_at}
-use Rattle.propagation.specs.Asks.{IsAsk}
-use Rattle.propagation.specs.Tables.{pending_in}
+use Rattle.cdcl_defs.specs.State.{clause_at}
+use Rattle.propagation.specs.own.Asks.{IsAsk}
+use Rattle.propagation.specs.own.Tables.{pending_in}
 use Rattle.propagation.proofs.Asks.{cleaned_complete, cleaned_least, cleaned_fewer}
 use Rattle.propagation.proofs.AsksKept.{asks_fewer}
 use Rattle.propagation.proofs.Fronts.{first_some, first_none}

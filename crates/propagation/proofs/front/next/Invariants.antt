@@ -1,8 +1,8 @@
 use Rattle.std.proofs.Common.{◌≡◌, ℕ, ◌<◌, ◌≤◌, ◌-◌, false}
 use Rattle.bit_sets.specs.Layered.{words_have}
-use Rattle.propagation.specs.Asks.{HasAsks}
+use Rattle.propagation.specs.own.Asks.{HasAsks}
 use Rattle.propagation.specs.Front.{StayWhere}
-use Rattle.propagation.specs.Tables.{pending_in}
+use Rattle.propagation.specs.own.Tables.{pending_in}
 use Rattle.propagation.proofs.front.next.Given as goal
 
 abbrev pub invariant-taking : goal.invariant-taking

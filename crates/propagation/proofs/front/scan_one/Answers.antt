@@ -1,9 +1,9 @@
 use Rattle.std.proofs.Common.{arith, ◌≡◌, ◌*◌, sym, ◌∙◌, ap, List, ℕ, subst, Bool, false, ◌&&◌, get_or}
 use Rattle.clause_base.specs.Clause.{has_literal}
-use Rattle.cdcl_rules.specs.Pending.{is_pending}
-use Rattle.cdcl_rules.specs.State.{clause_at}
+use Rattle.cdcl_defs.specs.Pending.{is_pending}
+use Rattle.cdcl_defs.specs.State.{clause_at}
 use Rattle.bit_sets.specs.Layered.{words_have}
-use Rattle.propagation.specs.Asks.{IsAsk}
+use Rattle.propagation.specs.own.Asks.{IsAsk}
 use Rattle.propagation.proofs.Asks.{clash, fit_read, pending_kept}
 use Rattle.propagation.proofs.AsksKept.{asks_put}
 use Rattle.propagation.proofs.Filters.{clause_is, pending_at}

@@ -1,8 +1,8 @@
 use Rattle.std.proofs.Common.{arith, ◌≡◌, ◌+◌, ◌∙◌, ◌∷◌, ◌++◌, [], ℕ, List, length, sym, subst, refl}
-use Rattle.cdcl_rules.specs.State.{clause_at}
-use Rattle.propagation.specs.Given.{AreRising, IsBeside}
-use Rattle.propagation.specs.Visit.{AreSlotsBelow}
-use Rattle.propagation.proofs.Assigns.{equal_of}
+use Rattle.cdcl_defs.specs.State.{clause_at}
+use Rattle.propagation.specs.own.Given.{AreRising, IsBeside}
+use Rattle.propagation.specs.own.Visit.{AreSlotsBelow}
+use Rattle.propagation.proofs.published.Assigns.{equal_of}
 use Rattle.propagation.proofs.Slotted.{below_more}
 use Rattle.propagation.proofs.Templates.{twos_next, twos_push, rising_push}
 use Rattle.propagation.proofs.given.others_of.Goals as goal

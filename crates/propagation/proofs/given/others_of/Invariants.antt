@@ -1,7 +1,7 @@
 use Rattle.std.proofs.Common.{◌≡◌, ℕ, length}
-use Rattle.cdcl_rules.specs.State.{clause_at}
-use Rattle.propagation.specs.Given.{AreRising, IsBeside}
-use Rattle.propagation.specs.Visit.{AreSlotsBelow}
+use Rattle.cdcl_defs.specs.State.{clause_at}
+use Rattle.propagation.specs.own.Given.{AreRising, IsBeside}
+use Rattle.propagation.specs.own.Visit.{AreSlotsBelow}
 use Rattle.propagation.proofs.given.others_of.Given as goal
 
 abbrev pub invariant-loop-number : goal.invariant-loop-number

@@ -2,10 +2,10 @@ use Rattle.std.proofs.Common.{arith, rules, ◌<◌, length, sym, subst}
 use Rattle.std.proofs.lemmas.List.{get_or_read}
 use Rattle.clause_base.specs.Clause.{has_literal}
 use Rattle.bit_sets.specs.Layered.{words_have}
-use Rattle.cdcl_rules.specs.State.{clause_at}
-use Rattle.propagation.specs.Asks.{HasAsks, IsAsk}
+use Rattle.cdcl_defs.specs.State.{clause_at}
+use Rattle.propagation.specs.own.Asks.{HasAsks, IsAsk}
 use Rattle.propagation.specs.Front.{AreRead}
-use Rattle.propagation.specs.Tables.{pending_in}
+use Rattle.propagation.specs.own.Tables.{pending_in}
 use Rattle.propagation.proofs.Asks.{cleaned_fewer}
 use Rattle.propagation.proofs.AsksKept.{asks_fewer, asks_put}
 use Rattle.propagation.proofs.Knowns.{listed_first, stay_back}

@@ -1,10 +1,10 @@
 use Rattle.std.proofs.Common.{arith, ◌≡◌, ◌∙◌, ◌<◌, true, length, get_or, sym}
 use Rattle.clause_base.specs.Clause.{has_literal}
 use Rattle.bit_sets.specs.Layered.{words_have}
-use Rattle.cdcl_rules.specs.Pending.{is_pending}
-use Rattle.cdcl_rules.specs.State.{clause_at}
-use Rattle.propagation.specs.Tables.{pending_in}
-use Rattle.propagation.proofs.Adds.{kept_in}
+use Rattle.cdcl_defs.specs.Pending.{is_pending}
+use Rattle.cdcl_defs.specs.State.{clause_at}
+use Rattle.propagation.specs.own.Tables.{pending_in}
+use Rattle.propagation.proofs.published.Adds.{kept_in}
 use Rattle.propagation.proofs.Asks.{below_more}
 use Rattle.propagation.proofs.Filters.{pending_at}
 use Rattle.propagation.proofs.known.scan_listed.Goals as goal

@@ -1,8 +1,8 @@
 use Rattle.std.proofs.Common.{◌≡◌, ℕ, ◌<◌, true, false}
 use Rattle.clause_base.specs.Clause.{has_literal}
 use Rattle.bit_sets.specs.Layered.{words_have}
-use Rattle.propagation.specs.Asks.{HasAsks}
-use Rattle.propagation.specs.Visit.{Grows}
+use Rattle.propagation.specs.own.Asks.{HasAsks}
+use Rattle.propagation.specs.own.Visit.{Grows}
 use Rattle.clause_base.specs.Pairs.{pair_in}
 use Rattle.propagation.proofs.marks.mark_all.Given as goal
 

@@ -1,6 +1,6 @@
 use Rattle.std.proofs.Common.{List, sym, subst}
 use Rattle.clause_base.specs.declared.pair.Pair.{Pair}
-use Rattle.propagation.specs.Pairs.{AreMarked, ArePairsOf}
+use Rattle.propagation.specs.own.Pairs.{AreMarked, ArePairsOf}
 use Rattle.propagation.proofs.marks.mark_fact.Goals as goal
 
 pub last-ending-requires : goal.last-ending-requires

@@ -3,9 +3,9 @@ use Rattle.clause_base.specs.Clause.{has_literal}
 use Rattle.bit_sets.specs.Layered.{words_have}
 use Rattle.clause_base.specs.declared.pair.Pair.{Pair}
 use Rattle.clause_base.specs.Pairs.{pairs_of}
-use Rattle.clause_store.specs.Pairs.{IsPairOf}
-use Rattle.clause_store.proofs.Five.{EachPair, AreFive, each_of_five, five_of_each}
-use Rattle.propagation.specs.Visit.{Grows}
+use Rattle.cdcl_tables.specs.Pairs.{IsPairOf}
+use Rattle.cdcl_tables.proofs.published.Five.{EachPair, AreFive, each_of_five, five_of_each}
+use Rattle.propagation.specs.own.Visit.{Grows}
 use Rattle.propagation.proofs.marks.mark_pairs.Goals as goal
 use Rattle.propagation.proofs.marks.mark_pairs.Goals.{After-lists-lists, After-after}
 

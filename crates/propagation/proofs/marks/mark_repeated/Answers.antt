@@ -1,7 +1,7 @@
 use Rattle.std.proofs.Common.{arith, ◌≡◌, ℕ, List, [], length, sym, ap, subst}
 use Rattle.clause_base.specs.declared.pair.Pair.{Pair}
 use Rattle.propagation.specs.declared.pending.Pending.{Pending}
-use Rattle.propagation.specs.Pairs.{AreMarked, ArePairsOf}
+use Rattle.propagation.specs.own.Pairs.{AreMarked, ArePairsOf}
 use Rattle.propagation.proofs.marks.mark_repeated.Goals as goal
 
 -- of no pairs all are marked

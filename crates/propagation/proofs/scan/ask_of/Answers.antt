@@ -1,8 +1,8 @@
 use Rattle.std.proofs.Common.{inr, sym, subst}
 use Rattle.clause_base.specs.Clause.{has_literal}
-use Rattle.cdcl_rules.specs.Pending.{is_pending, open_ones}
-use Rattle.propagation.specs.Asks.{IsUnit}
-use Rattle.propagation.specs.Status.{IsStatus}
+use Rattle.cdcl_defs.specs.Pending.{is_pending, open_ones}
+use Rattle.propagation.specs.own.Asks.{IsUnit}
+use Rattle.propagation.specs.own.Status.{IsStatus}
 use Rattle.propagation.proofs.Asks.{none_open, one_open}
 use Rattle.propagation.proofs.scan.ask_of.Goals as goal
 

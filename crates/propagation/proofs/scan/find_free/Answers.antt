@@ -1,7 +1,7 @@
 use Rattle.std.proofs.Common.{arith, ◌≡◌, ◌∙◌, ℕ, ◌+◌, ◌*◌, ◌<◌, ◌≤◌, length, get_or, sym, ap, subst}
 use Rattle.std.proofs.lemmas.List.{get_or_read}
 use Rattle.clause_base.specs.View.{shifted}
-use Rattle.clause_base.proofs.ViewLemmas.{up_high}
+use Rattle.clause_base.proofs.published.ViewLemmas.{up_high}
 use Rattle.propagation.proofs.Runs.{as_long, low_item, high_item, sought_none, sought_other}
 use Rattle.propagation.proofs.scan.find_free.Goals as goal
 use Rattle.propagation.proofs.scan.find_free.Goals.{After-lit}

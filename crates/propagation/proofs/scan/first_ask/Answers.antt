@@ -1,6 +1,6 @@
 use Rattle.std.proofs.Common.{arith, ◌≡◌, ◌≢◌, ◌<◌, ◌∙◌, ℕ, List, [], ◌∷◌, refl, inl, inr, length, get_or, sym, subst}
 use Rattle.std.proofs.lemmas.List.{get_or_read}
-use Rattle.propagation.specs.Asks.{IsAsk}
+use Rattle.propagation.specs.own.Asks.{IsAsk}
 use Rattle.propagation.proofs.scan.first_ask.Goals as goal
 
 none : (xs : List ℕ) → length xs ≡ 0 → xs ≡ []

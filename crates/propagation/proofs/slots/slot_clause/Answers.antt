@@ -1,7 +1,7 @@
 use Rattle.std.proofs.Common.{arith, ◌≡◌, ◌<◌, ℕ, length, ap, sym, ◌∙◌}
 use Rattle.std.proofs.lemmas.List.{get_or_read}
-use Rattle.cdcl_rules.specs.State.{clause_at}
-use Rattle.propagation.specs.Tables.{clauses_in}
+use Rattle.cdcl_defs.specs.State.{clause_at}
+use Rattle.propagation.specs.own.Tables.{clauses_in}
 use Rattle.propagation.proofs.Filters.{clause_is}
 use Rattle.propagation.proofs.Slotted.{slot_at}
 use Rattle.propagation.proofs.Stepped.{clause_of_step}

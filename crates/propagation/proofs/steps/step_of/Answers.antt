@@ -1,5 +1,5 @@
 use Rattle.std.proofs.Common.{arith, ◌-◌, refl}
-use Rattle.clause_base.proofs.RepeatLemmas.{numbered}
+use Rattle.clause_base.proofs.published.RepeatLemmas.{numbered}
 use Rattle.propagation.proofs.steps.step_of.Goals as goal
 
 pub returns : goal.returns

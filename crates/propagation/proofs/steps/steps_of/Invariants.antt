@@ -1,5 +1,5 @@
 use Rattle.std.proofs.Common.{◌≡◌, length}
-use Rattle.propagation.specs.Steps.{ArePlaced}
+use Rattle.propagation.specs.own.Steps.{ArePlaced}
 use Rattle.propagation.proofs.steps.steps_of.Given as goal
 
 abbrev pub invariant-loop-slot : goal.invariant-loop-slot

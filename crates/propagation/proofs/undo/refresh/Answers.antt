@@ -1,12 +1,12 @@
 use Rattle.std.proofs.Common.{arith, ◌≡◌, ◌<◌, ◌∙◌, sym, ap, subst, true, false, length, get_or, ℕ, List}
 use Rattle.std.proofs.lemmas.List.{get_or_read}
 use Rattle.clause_base.specs.Clause.{has_literal}
-use Rattle.cdcl_rules.specs.Pending.{is_pending}
-use Rattle.cdcl_rules.specs.State.{clause_at}
+use Rattle.cdcl_defs.specs.Pending.{is_pending}
+use Rattle.cdcl_defs.specs.State.{clause_at}
 use Rattle.bit_sets.specs.Layered.{words_have}
-use Rattle.propagation.specs.Asks.{HasAsks}
-use Rattle.propagation.specs.Tables.{pending_in}
-use Rattle.propagation.proofs.Adds.{kept_in}
+use Rattle.propagation.specs.own.Asks.{HasAsks}
+use Rattle.propagation.specs.own.Tables.{pending_in}
+use Rattle.propagation.proofs.published.Adds.{kept_in}
 use Rattle.propagation.proofs.Asks.{below_more, clash}
 use Rattle.propagation.proofs.AsksKept.{asks_cleared}
 use Rattle.propagation.proofs.Filters.{pending_at}

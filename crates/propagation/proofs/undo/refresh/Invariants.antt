@@ -1,7 +1,7 @@
 use Rattle.std.proofs.Common.{◌≡◌, ℕ, ◌<◌, true}
 use Rattle.bit_sets.specs.Layered.{words_have}
-use Rattle.propagation.specs.Asks.{HasAsks}
-use Rattle.propagation.specs.Tables.{pending_in}
+use Rattle.propagation.specs.own.Asks.{HasAsks}
+use Rattle.propagation.specs.own.Tables.{pending_in}
 use Rattle.propagation.proofs.undo.refresh.Given as goal
 
 abbrev pub invariant-loop-number : goal.invariant-loop-number

@@ -2,7 +2,7 @@ use Rattle.std.proofs.Common.{List, sym, subst, map, string_bytes, option_map}
 use Rattle.std.proofs.lemmas.Result.{IfOk-weaker}
 use Rattle.clap.specs.Words.{App, app_of, found_of, rows_of}
 use Rattle.clap.specs.Walk.{Row}
-use Rattle.requests.proofs.Commands.{asked, unasked}
+use Rattle.requests.proofs.published.Commands.{asked, unasked}
 use Rattle.requests.specs.Fit.{IsFit}
 use Rattle.requests.specs.Passed.{Passed}
 use Rattle.requests.specs.Command.{command_of, lists}

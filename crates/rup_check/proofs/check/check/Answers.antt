@@ -1,6 +1,6 @@
 use Rattle.std.proofs.Common.{rules, ◌≡◌, ◌∙◌, ap, sym, Result, Ok, Err}
 use Rattle.std.specs.Prelude.{IsErrAnd}
-use Rattle.clause_base.proofs.Refutation.{unsatisfiable_from_refutation}
+use Rattle.clause_base.proofs.published.Refutation.{unsatisfiable_from_refutation}
 use Rattle.rup_check.specs.Certificate.{Stamp}
 use Rattle.rup_check.specs.declared.check.CheckError.{CheckError}
 use Rattle.rup_check.proofs.check.check.Goals as goal

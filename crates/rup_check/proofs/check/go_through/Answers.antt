@@ -1,12 +1,12 @@
 use Rattle.std.proofs.Common.{arith, ◌≡◌, ◌<◌, ◌≤◌, ◌∙◌, ◌∷◌, ℕ, List, Bool, true, false, ap, sym, subst, length, take}
 use Rattle.clause_base.specs.Derivation.{IsFirstUnderived}
 use Rattle.clause_base.specs.declared.log.Entry.{Entry}
-use Rattle.clause_log.specs.declared.reader.Kind.{Kind}
+use Rattle.proof_log.specs.declared.reader.Kind.{Kind}
 use Rattle.rup_check.proofs.KeptLemmas.{derived_more}
 use Rattle.rup_check.proofs.EndsLaws.{ends_next, ends_all}
 use Rattle.rup_check.proofs.TakenLaws.{entry_at, taken_more, true_ok}
-use Rattle.clause_log.specs.Step.{told_by}
-use Rattle.clause_log.proofs.Turns.{turn, some_left}
+use Rattle.proof_log.specs.Step.{told_by}
+use Rattle.proof_log.proofs.published.Turns.{turn, some_left}
 use Rattle.rup_check.proofs.check.go_through.Goals as goal
 
 -- the hints as they are lent are those that were read

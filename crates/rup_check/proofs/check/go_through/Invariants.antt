@@ -1,6 +1,6 @@
 use Rattle.std.proofs.Common.{◌≡◌, ◌<◌, ℕ, false, take, drop}
 use Rattle.clause_base.specs.Derivation.{IsDerivedAt}
-use Rattle.rup_check.specs.Ends.{ends_by}
+use Rattle.rup_check.specs.own.Ends.{ends_by}
 use Rattle.rup_check.specs.Taken.{HasTaken}
 use Rattle.rup_check.proofs.check.go_through.Given as goal
 

@@ -1,5 +1,6 @@
 use Rattle.std.proofs.Common.{◌≡◌, ◌∙◌, ℕ, suc, List, ◌∷◌, fold, ap, sym, subst, arith}
-use Rattle.clause_base.specs.Clause.{put, HasVariablesBelow}
+use Rattle.containers.specs.Rising.{put}
+use Rattle.clause_base.specs.Clause.{HasVariablesBelow}
 use Rattle.rup_check.proofs.entry.falsify_all.Goals as goal
 
 -- what holds of all literals holds of those after the first

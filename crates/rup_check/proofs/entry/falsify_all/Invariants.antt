@@ -1,5 +1,6 @@
 use Rattle.std.proofs.Common.{◌≡◌, fold, length}
-use Rattle.clause_base.specs.Clause.{put, HasVariablesBelow}
+use Rattle.containers.specs.Rising.{put}
+use Rattle.clause_base.specs.Clause.{HasVariablesBelow}
 use Rattle.rup_check.proofs.entry.falsify_all.Given as goal
 
 abbrev pub invariant-loop-lit : goal.invariant-loop-lit

@@ -1,4 +1,4 @@
-use Rattle.rup_check.specs.Kept.{kept_named}
+use Rattle.rup_check.specs.own.Kept.{kept_named}
 use Rattle.rup_check.proofs.SameMembers.{falsified_leads}
 use Rattle.rup_check.proofs.entry.leads_from.Goals as goal
 

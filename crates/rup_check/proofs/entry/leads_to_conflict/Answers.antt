@@ -1,5 +1,5 @@
 use Rattle.std.proofs.Common.{◌∙◌}
-use Rattle.rup_check.specs.Kept.{kept_named}
+use Rattle.rup_check.specs.own.Kept.{kept_named}
 use Rattle.rup_check.proofs.SameMembers.{forced_on}
 use Rattle.rup_check.proofs.entry.leads_to_conflict.Goals as goal
 

@@ -1,6 +1,6 @@
 use Rattle.std.proofs.Common.{◌≡◌, length}
 use Rattle.clause_base.specs.Derivation.{leads_to_conflict}
-use Rattle.rup_check.specs.Kept.{kept_named}
+use Rattle.rup_check.specs.own.Kept.{kept_named}
 use Rattle.rup_check.proofs.entry.leads_to_conflict.Given as goal
 
 abbrev pub invariant-loop-hint : goal.invariant-loop-hint

@@ -1,6 +1,6 @@
 use Rattle.std.proofs.Common.{arith, get_or, length}
 use Rattle.std.proofs.lemmas.Bool.{eqb-true}
-use Rattle.sat_text.proofs.Texts.{cut_at, no_end_all, no_end_before}
+use Rattle.sat_text.proofs.published.Texts.{cut_at, no_end_all, no_end_before}
 use Rattle.sat_text.proofs.lines.first_line.Goals as goal
 
 pub returns-in_err-place-clause-none : goal.returns-in_err-place-clause-none

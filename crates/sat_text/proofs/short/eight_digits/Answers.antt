@@ -1,5 +1,5 @@
 use Rattle.std.proofs.Common.{◌<◌, ℕ, sym, subst}
-use Rattle.sat_text.specs.Short.{eight_of}
+use Rattle.sat_text.specs.own.Short.{eight_of}
 use Rattle.sat_text.proofs.Eight.{values_more, part_fits, part_left, are_values, are_eight, eight_small}
 use Rattle.sat_text.proofs.short.eight_digits.Goals as goal
 

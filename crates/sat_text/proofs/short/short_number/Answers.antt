@@ -3,7 +3,7 @@ use Rattle.std.specs.Char.{is_ascii_digit}
 use Rattle.std.specs.List.{prefix_len, list_all}
 use Rattle.std.proofs.lemmas.List.{take_all, length-drop}
 use Rattle.std.proofs.lemmas.Simd.{length-chunk}
-use Rattle.sat_text.specs.Short.{eight_of}
+use Rattle.sat_text.specs.own.Short.{eight_of}
 use Rattle.sat_text.proofs.FewDigits.{all_digits, told, followed}
 use Rattle.sat_text.proofs.Eight.{are_eight, are_values, told_value}
 use Rattle.sat_text.proofs.short.short_number.Goals as goal

@@ -1,5 +1,5 @@
 use Rattle.std.proofs.Common.{◌≡◌, length}
-use Rattle.sat_text.specs.Cut.{after_blanks}
+use Rattle.sat_text.specs.own.Cut.{after_blanks}
 use Rattle.sat_text.proofs.words.after_blanks.Given as goal
 
 abbrev pub invariant-loop-byte : goal.invariant-loop-byte

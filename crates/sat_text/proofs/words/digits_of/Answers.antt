@@ -1,6 +1,6 @@
 use Rattle.std.proofs.Common.{◌∙◌, ℕ, List, length, drop, sym, ap}
 use Rattle.sat_text.specs.Words.{value_with}
-use Rattle.sat_text.specs.Cut.{digits_front, after_digits}
+use Rattle.sat_text.specs.own.Cut.{digits_front, after_digits}
 use Rattle.sat_text.proofs.Digits.{large_after, leading, natural_after, no_digit, none_after}
 use Rattle.sat_text.proofs.words.digits_of.Goals as goal
 

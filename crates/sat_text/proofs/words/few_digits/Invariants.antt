@@ -1,5 +1,5 @@
 use Rattle.std.proofs.Common.{◌≡◌, ◌+◌, ◌<◌, drop, length}
-use Rattle.sat_text.specs.Cut.{digits_front, after_digits}
+use Rattle.sat_text.specs.own.Cut.{digits_front, after_digits}
 use Rattle.sat_text.specs.Words.{value_of, value_with}
 use Rattle.sat_text.proofs.Digits.{most_of}
 use Rattle.sat_text.proofs.words.few_digits.Given as goal

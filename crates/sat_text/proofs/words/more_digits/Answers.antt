@@ -1,6 +1,6 @@
 use Rattle.std.proofs.Common.{◌∙◌, sym, ap}
 use Rattle.sat_text.specs.Words.{value_with}
-use Rattle.sat_text.specs.Cut.{digits_front}
+use Rattle.sat_text.specs.own.Cut.{digits_front}
 use Rattle.sat_text.proofs.WordsLaws.{digits_more}
 use Rattle.sat_text.proofs.Digits.{still_large}
 use Rattle.sat_text.proofs.words.more_digits.Goals as goal

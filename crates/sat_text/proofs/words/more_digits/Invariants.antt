@@ -1,5 +1,5 @@
 use Rattle.std.proofs.Common.{◌≡◌, ◌<◌, length}
-use Rattle.sat_text.specs.Cut.{digits_front, after_digits}
+use Rattle.sat_text.specs.own.Cut.{digits_front, after_digits}
 use Rattle.sat_text.specs.Words.{value_with}
 use Rattle.sat_text.proofs.words.more_digits.Given as goal
 

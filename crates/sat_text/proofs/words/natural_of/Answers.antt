@@ -1,5 +1,5 @@
 use Rattle.std.proofs.Common.{◌≡◌, ◌∙◌, sym, ap, true, false}
-use Rattle.sat_text.specs.Cut.{word_front, after_digits, ends_word}
+use Rattle.sat_text.specs.own.Cut.{word_front, after_digits, ends_word}
 use Rattle.sat_text.proofs.WordsLaws.{natural_front, natural_none, front_is_digits, front_not_digits, not_natural}
 use Rattle.sat_text.proofs.words.natural_of.Goals as goal
 

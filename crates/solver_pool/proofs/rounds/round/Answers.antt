@@ -1,6 +1,6 @@
 use Rattle.std.proofs.Common.{rules, ◌≡◌, length, false, arith, refl}
 use Rattle.solver_pool.specs.declared.worker.Worker.{Worker}
-use Rattle.solver_pool.specs.Rounds.{IsBeginning, AreServed}
+use Rattle.solver_pool.specs.own.Rounds.{IsBeginning, AreServed}
 use Rattle.solver_pool.proofs.Rounded.{rounded, alone_again, started_of, owner_of, workers_of}
 use Rattle.solver_pool.proofs.Rising.{given_back, in_order}
 use Rattle.solver_pool.proofs.rounds.round.Goals as goal

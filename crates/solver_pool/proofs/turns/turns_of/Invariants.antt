@@ -1,5 +1,5 @@
 use Rattle.std.proofs.Common.{◌≡◌, ◌-◌, ◌^◌, min, take}
-use Rattle.solver_pool.specs.Turns.{turns_in}
+use Rattle.solver_pool.specs.own.Turns.{turns_in}
 use Rattle.solver_pool.proofs.turns.turns_of.Given as goal
 
 abbrev pub invariant-loop-job : goal.invariant-loop-job

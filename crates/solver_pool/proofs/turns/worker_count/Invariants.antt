@@ -1,5 +1,5 @@
 use Rattle.std.proofs.Common.{◌≡◌, min, take}
-use Rattle.solver_pool.specs.Turns.{below_target}
+use Rattle.solver_pool.specs.own.Turns.{below_target}
 use Rattle.solver_pool.proofs.turns.worker_count.Given as goal
 
 abbrev pub invariant-loop-job : goal.invariant-loop-job

@@ -1,7 +1,7 @@
 use Rattle.crossbeam_queue.specs.Passes.{view}
 use Rattle.solver_pool.specs.Ring.{IsRingPass}
-use Rattle.solver_pool.specs.Left.{left_in}
-use Rattle.solver_pool.specs.Worker.{StaysAtWork, WorksAlone}
+use Rattle.solver_pool.specs.own.Left.{left_in}
+use Rattle.solver_pool.specs.own.Worker.{StaysAtWork, WorksAlone}
 use Rattle.solver_pool.proofs.worker.finish.Given as goal
 
 abbrev pub invariant-loop : goal.invariant-loop

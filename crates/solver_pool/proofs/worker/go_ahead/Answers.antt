@@ -1,5 +1,5 @@
 use Rattle.std.proofs.Common.{refl, sym, subst}
-use Rattle.solver_pool.specs.Serve.{IsEnded}
+use Rattle.solver_pool.specs.own.Serve.{IsEnded}
 use Rattle.solver_pool.proofs.Handed.{stays_ended}
 use Rattle.solver_pool.proofs.worker.go_ahead.Goals as goal
 

@@ -1,5 +1,5 @@
 use Rattle.solver_pool.specs.Ring.{IsRingPass}
-use Rattle.solver_pool.specs.Worker.{StaysAtWork}
+use Rattle.solver_pool.specs.own.Worker.{StaysAtWork}
 use Rattle.solver_pool.proofs.worker.work.Given as goal
 
 abbrev pub invariant-loop-turn : goal.invariant-loop-turn

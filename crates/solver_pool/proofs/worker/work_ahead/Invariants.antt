@@ -1,5 +1,5 @@
 use Rattle.std.proofs.Common.{◌≡◌}
-use Rattle.solver_pool.specs.Serve.{IsEnded}
+use Rattle.solver_pool.specs.own.Serve.{IsEnded}
 use Rattle.solver_pool.proofs.worker.work_ahead.Given as goal
 
 abbrev pub invariant-loop-turn : goal.invariant-loop-turn

@@ -1,6 +1,6 @@
 use Rattle.std.proofs.Common.{rules, IfOk, Result, Ok, Err, subst, sym, slice_index_or}
 use Rattle.solver_pool.specs.declared.worker.Worker.{Worker}
-use Rattle.solver_pool.specs.Worker.{StaysAtWork, IsWorkerOf}
+use Rattle.solver_pool.specs.own.Worker.{StaysAtWork, IsWorkerOf}
 use Rattle.solver_pool.proofs.workers.all_work.Goals as goal
 
 if_ok : {T E : Type 0} (P Q : T → Type 0) → ((t : T) → P t → Q t) → (r : Result T E) → IfOk r P → IfOk r Q

@@ -3,7 +3,7 @@ use Rattle.std.proofs.Common.{◌≡◌, ◌∷◌, ◌++◌, ℕ, ◌+◌, true
 use Rattle.std.specs.List.{All}
 use Rattle.std.proofs.lemmas.List.Elements.{All-append}
 use Rattle.solver_pool.specs.declared.worker.Worker.{Worker}
-use Rattle.solver_pool.specs.Worker.{IsAtWork, IsNewWorker}
+use Rattle.solver_pool.specs.own.Worker.{IsAtWork, IsNewWorker}
 use Rattle.solver_pool.proofs.Keeps.{all_one}
 use Rattle.solver_pool.proofs.Passes.{gives_out, begins_work}
 use Rattle.solver_pool.proofs.workers.new_workers.Goals as goal

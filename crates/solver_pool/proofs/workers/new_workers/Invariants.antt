@@ -1,7 +1,7 @@
 use Rattle.std.proofs.Common.{◌≡◌, true, vec_len}
 use Rattle.crossbeam_queue.specs.Passes.{view}
 use Rattle.solver_pool.specs.Ring.{IsRingPass}
-use Rattle.solver_pool.specs.Worker.{StartsWorkers}
+use Rattle.solver_pool.specs.own.Worker.{StartsWorkers}
 use Rattle.solver_pool.proofs.workers.new_workers.Given as goal
 
 abbrev pub invariant-loop-i : goal.invariant-loop-i

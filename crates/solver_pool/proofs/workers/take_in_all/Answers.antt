@@ -1,7 +1,7 @@
 use Rattle.std.proofs.Common.{◌≡◌, ◌∷◌, ◌++◌, ℕ, ◌+◌, true, false, [], length, rules, subst, List, length-append, arith, ap}
 use Rattle.std.specs.List.{All}
 use Rattle.solver_pool.specs.declared.worker.Worker.{Worker}
-use Rattle.solver_pool.specs.Worker.{IsAtWork, IsWorkerOf, HasWorkerPass}
+use Rattle.solver_pool.specs.own.Worker.{IsAtWork, IsWorkerOf, HasWorkerPass}
 use Rattle.solver_pool.proofs.Passes.{all_init, all_last}
 use Rattle.solver_pool.proofs.workers.take_in_all.Goals as goal
 

@@ -3,7 +3,7 @@ use Rattle.std.specs.List.{All}
 use Rattle.crossbeam_queue.specs.Passes.{view}
 use Rattle.solver_pool.specs.Ring.{IsRingPass}
 use Rattle.solver_pool.specs.declared.pass_view.BookEntry.{BookEntry}
-use Rattle.solver_pool.specs.Worker.{IsAtWork, IsWorkerOf, HasWorkerPass}
+use Rattle.solver_pool.specs.own.Worker.{IsAtWork, IsWorkerOf, HasWorkerPass}
 use Rattle.solver_pool.proofs.workers.take_in_all.Given as goal
 
 abbrev pub invariant-loop-worker : goal.invariant-loop-worker

@@ -2,7 +2,7 @@ use Rattle.std.proofs.Common.{◌≡◌, ◌||◌, ◌++◌, Bool, true, false, 
 use Rattle.std.specs.List.{All}
 use Rattle.std.proofs.lemmas.List.Elements.{All-append}
 use Rattle.solver_pool.specs.Job.{JobView}
-use Rattle.solver_pool.specs.Worker.{IsHanded}
+use Rattle.solver_pool.specs.own.Worker.{IsHanded}
 use Rattle.solver_pool.proofs.Passes.{takes_in}
 use Rattle.solver_pool.proofs.workers.take_in_one.Goals as goal
 

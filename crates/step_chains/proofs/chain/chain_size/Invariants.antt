@@ -1,5 +1,5 @@
 use Rattle.std.proofs.Common.{◌≡◌, ◌+◌, ◌*◌, ◌≤◌, false, count_by, drop}
-use Rattle.step_chains.specs.Links.{link_size}
+use Rattle.step_chains.specs.own.Links.{link_size}
 use Rattle.step_chains.proofs.chain.chain_size.Given as goal
 
 abbrev pub invariant-loop-link : goal.invariant-loop-link

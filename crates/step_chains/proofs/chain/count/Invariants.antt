@@ -1,5 +1,5 @@
 use Rattle.std.proofs.Common.{◌≡◌, ◌+◌, ◌≤◌, false, drop}
-use Rattle.step_chains.specs.Links.{link_count}
+use Rattle.step_chains.specs.own.Links.{link_count}
 use Rattle.step_chains.proofs.chain.count.Given as goal
 
 abbrev pub invariant-loop-link : goal.invariant-loop-link

@@ -1,6 +1,6 @@
 use Rattle.std.proofs.Common.{◌+◌, ap, ◌∙◌, refl, drop}
-use Rattle.horizon_formula.specs.Layout.{action_at, chain_at}
-use Rattle.gt_core.proofs.Basics.{or_right}
+use Rattle.formula_defs.specs.Layout.{action_at, chain_at}
+use Rattle.gt_core.proofs.published.Basics.{or_right}
 use Rattle.step_chains.specs.Chains.{LinkedChain}
 use Rattle.step_chains.proofs.WalkLaw.{walked, variable_left, enter_next}
 use Rattle.step_chains.proofs.clauses.add_enters.Goals as goal

@@ -1,8 +1,8 @@
 use Rattle.std.proofs.Common.{◌≡◌, ◌++◌, false, drop}
-use Rattle.horizon_formula.specs.Layout.{action_at, chain_at}
-use Rattle.horizon_formula.specs.Coded.{coded}
-use Rattle.step_chains.specs.Links.{enter_links}
-use Rattle.step_chains.specs.Walk.{StandsBefore}
+use Rattle.formula_defs.specs.Layout.{action_at, chain_at}
+use Rattle.formula_defs.specs.Coded.{coded}
+use Rattle.step_chains.specs.own.Links.{enter_links}
+use Rattle.step_chains.specs.own.Walk.{StandsBefore}
 use Rattle.step_chains.proofs.clauses.add_enters.Given as goal
 
 abbrev pub invariant-loop-link : goal.invariant-loop-link

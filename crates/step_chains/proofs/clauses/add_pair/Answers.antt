@@ -1,6 +1,6 @@
 use Rattle.std.proofs.Common.{List, ℕ, [], ◌∷◌, ◌++◌, ap, ◌∙◌}
 use Rattle.clause_base.specs.Clause.{clause_of}
-use Rattle.horizon_formula.proofs.CodedLaw.{option_same}
+use Rattle.formula_defs.proofs.published.CodedLaw.{option_same}
 use Rattle.step_chains.proofs.clauses.add_pair.Goals as goal
 
 pub returns : goal.returns

@@ -1,6 +1,6 @@
 use Rattle.std.proofs.Common.{◌+◌, ◌<◌, ℕ, Bool, ap, ◌∙◌, refl, drop, subst, if◌then◌else◌}
-use Rattle.horizon_formula.specs.Layout.{action_at, chain_at}
-use Rattle.gt_core.proofs.Basics.{or_left, and_split}
+use Rattle.formula_defs.specs.Layout.{action_at, chain_at}
+use Rattle.gt_core.proofs.published.Basics.{or_left, and_split}
 use Rattle.step_chains.specs.Chains.{LinkedChain}
 use Rattle.step_chains.proofs.WalkLaw.{walked, variable_left, pass_next}
 use Rattle.step_chains.proofs.clauses.add_passes.Goals as goal

@@ -1,5 +1,5 @@
 use Rattle.std.proofs.Common.{◌≡◌, ◌-◌, ◌<◌, ◌≤◌, ℕ, [], length, get_or}
-use Rattle.step_chains.specs.Index.{AreTouched}
+use Rattle.step_chains.specs.own.Index.{AreTouched}
 use Rattle.step_chains.proofs.index.clear_touched.Given as goal
 
 abbrev pub invariant-loop-lit : goal.invariant-loop-lit

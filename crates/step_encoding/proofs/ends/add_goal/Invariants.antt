@@ -1,7 +1,7 @@
 use Rattle.std.proofs.Common.{◌≡◌, [], ◌∷◌, ◌+◌, ◌++◌, map, length, drop}
-use Rattle.horizon_formula.specs.Layout.{fact_at}
-use Rattle.horizon_formula.specs.Clause.{code}
-use Rattle.horizon_formula.specs.Formula.{literal_over}
+use Rattle.formula_defs.specs.Layout.{fact_at}
+use Rattle.formula_defs.specs.Clause.{code}
+use Rattle.formula_defs.specs.Formula.{literal_over}
 use Rattle.step_encoding.proofs.ends.add_goal.Given as goal
 
 abbrev pub invariant-loop-lit : goal.invariant-loop-lit

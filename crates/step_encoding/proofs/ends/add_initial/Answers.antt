@@ -1,9 +1,9 @@
 use Rattle.std.proofs.Common.{arith, ◌≡◌, ℕ, Bool, List, [], ◌∷◌, if◌then◌else◌, ap, ◌∙◌}
 use Rattle.std.specs.List.{flat_map}
 use Rattle.gt_core.specs.Literal.{range}
-use Rattle.horizon_formula.specs.Layout.{fact_at}
-use Rattle.horizon_formula.specs.Clause.{Is, Not, code}
-use Rattle.step_encoding.specs.Parts.{added}
+use Rattle.formula_defs.specs.Layout.{fact_at}
+use Rattle.formula_defs.specs.Clause.{Is, Not, code}
+use Rattle.step_encoding.specs.own.Parts.{added}
 use Rattle.step_encoding.proofs.Parts.{added_more, one_longer, initial_part, initial_parts}
 use Rattle.step_encoding.proofs.ends.add_initial.Goals as goal
 

@@ -1,7 +1,7 @@
 use Rattle.std.proofs.Common.{◌≡◌, ◌+◌, length}
 use Rattle.std.specs.List.{flat_map}
 use Rattle.gt_core.specs.Literal.{range}
-use Rattle.step_encoding.specs.Parts.{added}
+use Rattle.step_encoding.specs.own.Parts.{added}
 use Rattle.step_encoding.proofs.Parts.{initial_part}
 use Rattle.step_encoding.proofs.ends.add_initial.Given as goal
 

@@ -1,7 +1,7 @@
 use Rattle.std.proofs.Common.{arith, ◌∙◌, length, sym, ap, ◌+◌, ◌≤◌, subst}
-use Rattle.horizon_formula.specs.Layout.{Layout, variables}
+use Rattle.formula_defs.specs.Layout.{Layout, variables}
 use Rattle.clause_base.specs.Repeats.{Repeats, repeated}
-use Rattle.clause_base.proofs.RepeatLemmas.{length_repeated}
+use Rattle.clause_base.proofs.published.RepeatLemmas.{length_repeated}
 use Rattle.step_encoding.proofs.Joined.{repeats_of, repeated_is, new_is, new_fits, first_new, first_fits, first_is, first_long}
 use Rattle.std.proofs.Math.Nat.{mul-le-mul_right}
 use Rattle.step_encoding.proofs.joining.repeated.Goals as goal

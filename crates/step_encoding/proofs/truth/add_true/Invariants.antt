@@ -1,6 +1,6 @@
 use Rattle.std.proofs.Common.{◌≡◌, ◌++◌, drop}
 use Rattle.std.specs.List.{filter}
-use Rattle.horizon_formula.specs.Layout.{action_at}
+use Rattle.formula_defs.specs.Layout.{action_at}
 use Rattle.clause_base.specs.Formula.{assignment_of}
 use Rattle.step_encoding.proofs.truth.add_true.Given as goal
 

@@ -1,5 +1,5 @@
 use Rattle.step_laws.proofs.AllReading.{all_plans}
-use Rattle.step_laws.proofs.AllWriting.{all_satisfied, all_refutes, sequence_is_all_plan}
+use Rattle.step_laws.proofs.published.AllWriting.{all_satisfied, all_refutes, sequence_is_all_plan}
 use Rattle.step_laws.proofs.all_laws.laws.Goals as goal
 
 pub returns-clause-satisfying_is_plan : goal.returns-clause-satisfying_is_plan

@@ -1,5 +1,6 @@
 use Rattle.step_laws.proofs.FormLaw.{plans, satisfied, refutes}
-use Rattle.step_laws.proofs.SequenceLaw.{one_by_one, sequence_is_plan}
+use Rattle.step_laws.proofs.published.SequenceLaw.{one_by_one, sequence_is_plan}
+use Rattle.step_laws.proofs.NeverLaw.{never_is_no_plan}
 use Rattle.step_laws.proofs.laws.laws.Goals as goal
 
 pub returns-clause-satisfying_is_plan : goal.returns-clause-satisfying_is_plan
@@ -13,3 +14,6 @@ returns-clause-unsatisfiable_is_no_plan c = refutes
 
 pub returns-clause-sequence_is_plan : goal.returns-clause-sequence_is_plan
 returns-clause-sequence_is_plan c = λ form n ks le can goal. (one_by_one ks n, sequence_is_plan form n ks le can goal)
+
+pub returns-clause-never_is_no_plan : goal.returns-clause-never_is_no_plan
+returns-clause-never_is_no_plan c = never_is_no_plan

@@ -3,7 +3,7 @@ use Rattle.std.proofs.lemmas.List.{drop_all}
 use Rattle.gt_core.specs.Published.{order_of}
 use Rattle.pd_model.specs.Plan.{IsPlan}
 use Rattle.pd_model.specs.declared.calls.Call.{Call}
-use Rattle.grounding_laws.specs.Laws.{AreNumbers}
+use Rattle.grounding_defs.specs.Laws.{AreNumbers}
 use Rattle.step_plans.specs.Plans.{in_order}
 use Rattle.step_plans.proofs.linear.linearise.Goals as goal
 

@@ -1,7 +1,7 @@
 use Rattle.std.proofs.Common.{◌∙◌}
 use Rattle.gt_core.specs.Literal.{is_in}
 use Rattle.gt_core.specs.Published.{order_of}
-use Rattle.step_plans.proofs.ByPlace.{members_next}
+use Rattle.step_plans.proofs.published.ByPlace.{members_next}
 use Rattle.step_plans.proofs.linear.push_members.Goals as goal
 
 pub loop-place-preserved : goal.loop-place-preserved

@@ -4,7 +4,7 @@ use Rattle.std.proofs.lemmas.Option.{slice_get_read}
 use Rattle.bit_sets.specs.Rows.{row_has}
 use Rattle.gt_core.specs.Literal.{opposite}
 use Rattle.implied_literals.specs.Rows.{clause_in}
-use Rattle.two_invariants.specs.Groups.{group_with, breaks_under, GroupFits}
+use Rattle.two_invariants.specs.own.Groups.{group_with, breaks_under, GroupFits}
 use Rattle.two_invariants.specs.declared.groups.Group.{Group}
 use Rattle.two_invariants.proofs.Grouping.{groups_more, all_read}
 use Rattle.two_invariants.proofs.Indexing.{from_place}

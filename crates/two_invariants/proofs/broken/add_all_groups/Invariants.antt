@@ -2,7 +2,7 @@ use Rattle.std.proofs.Common.{◌≡◌, ◌||◌, ◌&&◌, ℕ, drop, length}
 use Rattle.bit_sets.specs.Rows.{row_has}
 use Rattle.gt_core.specs.Literal.{opposite}
 use Rattle.implied_literals.specs.Rows.{clause_in}
-use Rattle.two_invariants.specs.Groups.{group_with, breaks_under}
+use Rattle.two_invariants.specs.own.Groups.{group_with, breaks_under}
 use Rattle.two_invariants.proofs.broken.add_all_groups.Given as goal
 
 abbrev pub invariant-loop-group : goal.invariant-loop-group

@@ -5,10 +5,10 @@ use Rattle.gt_core.specs.Literal.{opposite}
 use Rattle.implied_literals.specs.Breaks.{is_add}
 use Rattle.implied_literals.specs.Rows.{clause_in}
 use Rattle.implied_literals.specs.Tested.{with_more, has_no_pair}
-use Rattle.two_invariants.specs.Groups.{group_with, may_lose, may_take_by, is_sure_by}
-use Rattle.implied_literals.proofs.Exact.{pair_test_is}
+use Rattle.two_invariants.specs.own.Groups.{group_with, may_lose, may_take_by, is_sure_by}
+use Rattle.implied_literals.proofs.published.Exact.{pair_test_is}
 use Rattle.two_invariants.proofs.Steps.{more_within, and_true}
-use Rattle.gt_core.proofs.Basics.{or_split}
+use Rattle.gt_core.proofs.published.Basics.{or_split}
 use Rattle.two_invariants.proofs.Grouping.{none_lost}
 use Rattle.two_invariants.proofs.Indexing.{givers_more, takers_more, more_of, given_within, told_twice, firm_sure, kept_sure}
 use Rattle.two_invariants.proofs.broken.add_group_losses.Goals as goal

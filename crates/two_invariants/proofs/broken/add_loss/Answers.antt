@@ -1,7 +1,7 @@
 use Rattle.std.proofs.Common.{◌≡◌, ◌∙◌, ◌==◌, ◌&&◌, ◌||◌, not, ap, sym, Bool, ℕ, [], true, false, refl}
 use Rattle.std.proofs.lemmas.List.{get_or_read}
 use Rattle.bit_sets.specs.Rows.{row_has}
-use Rattle.gt_core.proofs.Basics.{test_same}
+use Rattle.gt_core.proofs.published.Basics.{test_same}
 use Rattle.implied_literals.specs.Breaks.{is_add}
 use Rattle.implied_literals.specs.Rows.{clause_in, row_at}
 use Rattle.two_invariants.proofs.Dropping.{row_more}

@@ -3,17 +3,17 @@ use Rattle.std.specs.List.{AllByRecursion, list_all}
 use Rattle.bit_sets.specs.Rows.{row_has, IsPairAcross}
 use Rattle.gt_core.specs.Literal.{opposite}
 use Rattle.gt_core.specs.Task.{Effect}
-use Rattle.gt_core.proofs.Basics.{apart}
+use Rattle.gt_core.proofs.published.Basics.{apart}
 use Rattle.implied_literals.specs.Rows.{clause_in}
 use Rattle.implied_literals.specs.Tested.{EffectFits, AreRowsOf, with_more, has_no_pair, breaks_by}
-use Rattle.two_invariants.specs.Harmless.{IsKept}
-use Rattle.two_invariants.specs.Plain.{breaks_plainly, has_opposite}
-use Rattle.two_invariants.specs.Groups.{effect_with, group_with, breaks_under, GroupFits}
+use Rattle.two_invariants.specs.own.Harmless.{IsKept}
+use Rattle.two_invariants.specs.own.Plain.{breaks_plainly, has_opposite}
+use Rattle.two_invariants.specs.own.Groups.{effect_with, group_with, breaks_under, GroupFits}
 use Rattle.two_invariants.specs.declared.groups.Group.{Group}
 use Rattle.two_invariants.proofs.Contradicted.{breaks_nothing}
 use Rattle.two_invariants.proofs.Steps.{more_within}
 use Rattle.two_invariants.proofs.Firm.{not_broken, nothing_more}
-use Rattle.implied_literals.proofs.Exact.{pair_test_is}
+use Rattle.implied_literals.proofs.published.Exact.{pair_test_is}
 use Rattle.two_invariants.proofs.PlainEffects.{breaks_the_same}
 use Rattle.two_invariants.proofs.broken.add_losses_of.Goals as goal
 

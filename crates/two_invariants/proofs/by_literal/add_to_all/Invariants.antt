@@ -1,6 +1,6 @@
 use Rattle.std.proofs.Common.{◌≡◌, ◌<◌, ◌-◌, ℕ, true, length}
 use Rattle.bit_sets.specs.Rows.{row_has}
-use Rattle.two_invariants.specs.Numbers.{finds, FindsMore}
+use Rattle.two_invariants.specs.own.Numbers.{finds, FindsMore}
 use Rattle.two_invariants.proofs.by_literal.add_to_all.Given as goal
 
 abbrev pub invariant-loop-literal : goal.invariant-loop-literal

@@ -3,9 +3,9 @@ use Rattle.std.proofs.lemmas.List.{get_or_read}
 use Rattle.std.proofs.lemmas.Bool.{cases_lt}
 use Rattle.bit_sets.specs.Rows.{row_has}
 use Rattle.gt_core.specs.Literal.{opposite}
-use Rattle.gt_core.proofs.Basics.{or_left}
+use Rattle.gt_core.proofs.published.Basics.{or_left}
 use Rattle.implied_literals.specs.Rows.{clause_in}
-use Rattle.implied_literals.proofs.Steps.{past_rows}
+use Rattle.implied_literals.proofs.published.Steps.{past_rows}
 use Rattle.two_invariants.proofs.Dropping.{still_either, dropped_twice, some_of, none_of, row_lost, rows_lost}
 use Rattle.two_invariants.proofs.drop.drop_lost.Goals as goal
 use Rattle.two_invariants.proofs.drop.drop_lost.Goals.{then-dropped, else-dropped}

@@ -2,7 +2,7 @@ use Rattle.std.proofs.Common.{◌≡◌, ◌&&◌, ◌||◌, ◌<◌, not, true,
 use Rattle.std.specs.Prelude.{nat_lt}
 use Rattle.bit_sets.specs.Rows.{row_has, room}
 use Rattle.implied_literals.specs.Rows.{clause_in}
-use Rattle.two_invariants.specs.Losses.{IsDropped}
+use Rattle.two_invariants.specs.own.Losses.{IsDropped}
 use Rattle.two_invariants.proofs.drop.drop_lost.Given as goal
 
 abbrev pub invariant-loop-l : goal.invariant-loop-l

@@ -1,8 +1,8 @@
 use Rattle.std.proofs.Common.{◌≡◌, ◌==◌, ◌&&◌, ◌||◌, ◌∙◌, not, true, false, refl, sym, Bool, ap, ℕ}
 use Rattle.bit_sets.specs.Rows.{row_has}
 use Rattle.implied_literals.specs.Rows.{clause_in}
-use Rattle.implied_literals.proofs.Steps.{nothing_in}
-use Rattle.gt_core.proofs.Basics.{apart}
+use Rattle.implied_literals.proofs.published.Steps.{nothing_in}
+use Rattle.gt_core.proofs.published.Basics.{apart}
 use Rattle.two_invariants.proofs.Dropping.{dropped_twice, row_dropped}
 use Rattle.two_invariants.proofs.Grouping.{some_in}
 use Rattle.two_invariants.proofs.drop.drop_row.Goals as goal

@@ -1,6 +1,6 @@
 use Rattle.std.proofs.Common.{◌≡◌, ◌∙◌, ◌==◌, ◌&&◌, subst, true, ℕ}
 use Rattle.bit_sets.specs.Rows.{row_has}
-use Rattle.gt_core.proofs.Basics.{and_split}
+use Rattle.gt_core.proofs.published.Basics.{and_split}
 use Rattle.implied_literals.specs.Rows.{clause_in}
 use Rattle.two_invariants.proofs.Grouping.{taken_next, taken_all, own_part}
 use Rattle.two_invariants.proofs.Dropping.{not_in_row, dropped_twice, row_dropped}

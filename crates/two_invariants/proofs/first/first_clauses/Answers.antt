@@ -2,8 +2,8 @@ use Rattle.std.proofs.Common.{arith, rules, ◌≡◌, ◌∙◌, ◌*◌, ℕ, 
 use Rattle.bit_sets.specs.Rows.{row_has}
 use Rattle.gt_core.specs.Literal.{state_of}
 use Rattle.implied_literals.specs.Rows.{clause_in}
-use Rattle.two_invariants.specs.First.{is_first}
-use Rattle.gt_core.proofs.Lists.{pushed_each}
+use Rattle.two_invariants.specs.own.First.{is_first}
+use Rattle.gt_core.proofs.published.Lists.{pushed_each}
 use Rattle.two_invariants.proofs.Steps.{first_everywhere, first_are_rows}
 use Rattle.two_invariants.proofs.first.first_clauses.Goals as goal
 

@@ -1,7 +1,7 @@
 use Rattle.std.proofs.Common.{◌∙◌, ap, sym, ◌||◌, ◌==◌, Bool, ℕ, List}
 use Rattle.bit_sets.specs.Rows.{row_has}
 use Rattle.gt_core.specs.Literal.{holds, state_of}
-use Rattle.implied_literals.proofs.Steps.{more_below, same_below}
+use Rattle.implied_literals.proofs.published.Steps.{more_below, same_below}
 use Rattle.two_invariants.proofs.first.true_literals.Goals as goal
 use Rattle.two_invariants.proofs.first.true_literals.Goals.{then-holds+in_ok-insert, else-holds}
 

@@ -1,10 +1,10 @@
 use Rattle.std.proofs.Common.{◌&&◌, inl, inr, arith, ◌≡◌, ◌==◌, ◌∙◌, ℕ, List, ap, sym}
 use Rattle.std.proofs.lemmas.Bool.{cases_lt}
 use Rattle.bit_sets.specs.Rows.{row_has}
-use Rattle.gt_core.proofs.Basics.{apart, and_split, and_both}
+use Rattle.gt_core.proofs.published.Basics.{apart, and_split, and_both}
 use Rattle.two_invariants.proofs.Indexing.{all_given}
 use Rattle.std.specs.List.{list_any}
-use Rattle.two_invariants.specs.Numbers.{numbers_for}
+use Rattle.two_invariants.specs.own.Numbers.{numbers_for}
 use Rattle.two_invariants.proofs.givers.fill_given.Goals as goal
 
 pub returns : goal.returns

@@ -2,9 +2,9 @@ use Rattle.std.proofs.Common.{◌≡◌, ◌<◌, ◌-◌, ℕ, true}
 use Rattle.std.specs.List.{list_all}
 use Rattle.bit_sets.specs.Rows.{row_has}
 use Rattle.implied_literals.specs.Rows.{IsPart}
-use Rattle.two_invariants.specs.Groups.{group_with}
-use Rattle.two_invariants.specs.Numbers.{finds}
-use Rattle.two_invariants.specs.Index.{IsNumbered, gives_in}
+use Rattle.two_invariants.specs.own.Groups.{group_with}
+use Rattle.two_invariants.specs.own.Numbers.{finds}
+use Rattle.two_invariants.specs.own.Index.{IsNumbered, gives_in}
 use Rattle.two_invariants.specs.declared.groups.Group.{Group}
 use Rattle.two_invariants.proofs.givers.fill_given.Given as goal
 

@@ -1,7 +1,7 @@
 use Rattle.std.proofs.Common.{◌==◌, ◌∙◌, ℕ, get_or, inl, inr, sym, subst}
 use Rattle.std.proofs.lemmas.List.Folds.{list_any_more}
-use Rattle.gt_core.proofs.Basics.{or_split, test_same}
-use Rattle.two_invariants.specs.Index.{IsNumbered}
+use Rattle.gt_core.proofs.published.Basics.{or_split, test_same}
+use Rattle.two_invariants.specs.own.Index.{IsNumbered}
 use Rattle.two_invariants.proofs.givers.give_listed.Goals as goal
 
 pub loop-number-preserved : goal.loop-number-preserved

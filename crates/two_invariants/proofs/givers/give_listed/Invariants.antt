@@ -2,8 +2,8 @@ use Rattle.std.proofs.Common.{◌≡◌, ◌==◌, ◌⊎◌, ℕ, true, take}
 use Rattle.std.specs.List.{list_any, list_all}
 use Rattle.bit_sets.specs.Rows.{row_has}
 use Rattle.implied_literals.specs.Rows.{IsPart}
-use Rattle.two_invariants.specs.Groups.{group_with}
-use Rattle.two_invariants.specs.Index.{IsNumbered, gives_in}
+use Rattle.two_invariants.specs.own.Groups.{group_with}
+use Rattle.two_invariants.specs.own.Index.{IsNumbered, gives_in}
 use Rattle.two_invariants.specs.declared.groups.Group.{Group}
 use Rattle.two_invariants.proofs.givers.give_listed.Given as goal
 

@@ -2,7 +2,7 @@ use Rattle.std.proofs.Common.{length, refl, arith, ◌≡◌, ℕ, subst}
 use Rattle.std.proofs.lemmas.Option.{slice_get_read}
 use Rattle.bit_sets.specs.Rows.{row_has}
 use Rattle.two_invariants.proofs.Counting.{more_givers}
-use Rattle.two_invariants.specs.Index.{AreGivers}
+use Rattle.two_invariants.specs.own.Index.{AreGivers}
 use Rattle.two_invariants.proofs.givers.givers_of.Goals as goal
 
 pub loop-number-preserved : goal.loop-number-preserved

@@ -2,15 +2,15 @@ use Rattle.std.proofs.Common.{◌≡◌, ◌<◌, ◌*◌, ◌∙◌, ap, sym, s
 use Rattle.std.specs.List.{AllByRecursion}
 use Rattle.bit_sets.specs.Rows.{row_has}
 use Rattle.gt_core.specs.Literal.{opposite, state_of}
-use Rattle.gt_core.proofs.Within.{lawful, among_at}
+use Rattle.gt_core.proofs.published.Within.{lawful, among_at}
 use Rattle.implied_literals.specs.Rows.{clause_in, AreRows}
 use Rattle.implied_literals.specs.Tested.{IsSetOf, AreKnown, act_at}
-use Rattle.two_invariants.specs.First.{is_first}
+use Rattle.two_invariants.specs.own.First.{is_first}
 use Rattle.implied_literals.specs.Renewed.{WereKnown, IsSettled, IsTested}
 use Rattle.two_invariants.proofs.Surrounding.{surrounds_first, not_opposite}
 use Rattle.two_invariants.proofs.RoundLaw.{actions_fit, all_settled, were_known}
 use Rattle.two_invariants.proofs.GreatestLaw.{still_around, are_invariants}
-use Rattle.implied_literals.proofs.Unmoved.{asked_among, asked_within}
+use Rattle.implied_literals.proofs.published.Unmoved.{asked_among, asked_within}
 use Rattle.two_invariants.proofs.greatest.greatest_rows.Goals as goal
 
 pub first_known-requires-clause-clauses : goal.first_known-requires-clause-clauses

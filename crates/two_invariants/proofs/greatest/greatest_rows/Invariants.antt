@@ -2,9 +2,9 @@ use Rattle.std.proofs.Common.{◌*◌}
 use Rattle.bit_sets.specs.Rows.{row_has}
 use Rattle.implied_literals.specs.Rows.{clause_in, AreRows}
 use Rattle.implied_literals.specs.Tested.{AreKnown}
-use Rattle.two_invariants.specs.Greatest.{Surrounds}
+use Rattle.two_invariants.specs.own.Greatest.{Surrounds}
 use Rattle.implied_literals.specs.Renewed.{IsTested}
-use Rattle.two_invariants.specs.Rounds.{clause_count}
+use Rattle.two_invariants.specs.own.Rounds.{clause_count}
 use Rattle.two_invariants.proofs.greatest.greatest_rows.Given as goal
 
 abbrev pub invariant-round : goal.invariant-round

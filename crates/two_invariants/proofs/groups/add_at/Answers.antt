@@ -1,6 +1,6 @@
 use Rattle.std.proofs.Common.{◌∙◌, ◌&&◌, ◌==◌, ap}
 use Rattle.bit_sets.specs.Rows.{row_has}
-use Rattle.two_invariants.specs.Groups.{GroupFits}
+use Rattle.two_invariants.specs.own.Groups.{GroupFits}
 use Rattle.two_invariants.specs.declared.groups.Group.{Group}
 use Rattle.two_invariants.proofs.Grouping.{any_changed, all_changed, all_read, group_more, more_fits}
 use Rattle.two_invariants.proofs.groups.add_at.Goals as goal

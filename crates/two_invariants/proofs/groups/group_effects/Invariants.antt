@@ -1,7 +1,7 @@
 use Rattle.std.proofs.Common.{◌≡◌, ◌||◌, ℕ, List, Bool, drop}
 use Rattle.std.specs.List.{AllByRecursion}
 use Rattle.implied_literals.specs.Tested.{EffectFits}
-use Rattle.two_invariants.specs.Groups.{effect_with, group_with, GroupFits}
+use Rattle.two_invariants.specs.own.Groups.{effect_with, group_with, GroupFits}
 use Rattle.two_invariants.proofs.groups.group_effects.Given as goal
 
 abbrev pub invariant-loop-effect : goal.invariant-loop-effect

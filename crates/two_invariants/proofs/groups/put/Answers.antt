@@ -1,7 +1,7 @@
 use Rattle.std.proofs.Common.{ℕ, ◌<◌, List, sym, subst}
 use Rattle.std.specs.List.{AllByRecursion}
 use Rattle.gt_core.specs.Literal.{opposite}
-use Rattle.two_invariants.specs.Groups.{GroupFits}
+use Rattle.two_invariants.specs.own.Groups.{GroupFits}
 use Rattle.two_invariants.specs.declared.groups.Group.{Group}
 use Rattle.two_invariants.proofs.Grouping.{all_push, one_fits}
 use Rattle.two_invariants.proofs.groups.put.Goals as goal

@@ -3,9 +3,9 @@ use Rattle.std.proofs.lemmas.List.{drop_all}
 use Rattle.bit_sets.specs.Rows.{row_has}
 use Rattle.gt_core.specs.Literal.{opposite}
 use Rattle.gt_core.specs.Task.{Effect}
-use Rattle.gt_core.proofs.Basics.{or_split, test_same}
+use Rattle.gt_core.proofs.published.Basics.{or_split, test_same}
 use Rattle.implied_literals.specs.Rows.{clause_in}
-use Rattle.two_invariants.specs.Plain.{has_opposite}
+use Rattle.two_invariants.specs.own.Plain.{has_opposite}
 use Rattle.two_invariants.proofs.Grouping.{opposite_fits}
 use Rattle.two_invariants.proofs.Steps.{any_rest}
 use Rattle.two_invariants.proofs.harmless.are_harmless.Goals as goal

@@ -1,7 +1,7 @@
 use Rattle.std.proofs.Common.{◌≡◌, true, false, ℕ, drop}
 use Rattle.bit_sets.specs.Rows.{row_has}
 use Rattle.implied_literals.specs.Rows.{clause_in}
-use Rattle.two_invariants.specs.Plain.{has_opposite}
+use Rattle.two_invariants.specs.own.Plain.{has_opposite}
 use Rattle.two_invariants.proofs.harmless.are_harmless.Given as goal
 
 abbrev pub invariant-loop-effect : goal.invariant-loop-effect

@@ -1,7 +1,7 @@
 use Rattle.std.proofs.Common.{arith, ◌≡◌, ◌∙◌, ◌+◌, ◌≤◌, ◌<◌, ◌⊎◌, inl, inr, not, ap, subst, sym, true, false, refl, Bool, ℕ, List}
 use Rattle.std.proofs.lemmas.Bool.{cases_lt}
 use Rattle.bit_sets.specs.Rows.{row_has}
-use Rattle.gt_core.proofs.Basics.{and_split, apart}
+use Rattle.gt_core.proofs.published.Basics.{and_split, apart}
 use Rattle.implied_literals.specs.Rows.{clause_in}
 use Rattle.two_invariants.proofs.harmless.is_harmless.Goals as goal
 

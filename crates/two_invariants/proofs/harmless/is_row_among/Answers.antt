@@ -2,7 +2,7 @@ use Rattle.std.proofs.Common.{◌∙◌, inl, inr, ap, sym, ℕ, List, []}
 use Rattle.std.proofs.lemmas.List.{get_or_read}
 use Rattle.std.proofs.lemmas.Bool.{OnTrue_at}
 use Rattle.bit_sets.specs.Rows.{row_has}
-use Rattle.gt_core.proofs.Basics.{apart, or_split}
+use Rattle.gt_core.proofs.published.Basics.{apart, or_split}
 use Rattle.implied_literals.specs.Rows.{clause_in}
 use Rattle.two_invariants.proofs.harmless.is_row_among.Goals as goal
 

@@ -1,6 +1,6 @@
 use Rattle.std.proofs.Common.{◌≡◌, ◌&&◌, not, ℕ, drop}
 use Rattle.bit_sets.specs.Rows.{row_has}
-use Rattle.two_invariants.specs.Plain.{has_opposite}
+use Rattle.two_invariants.specs.own.Plain.{has_opposite}
 use Rattle.two_invariants.proofs.harmless.remove_opposites.Given as goal
 
 abbrev pub invariant-loop-effect : goal.invariant-loop-effect

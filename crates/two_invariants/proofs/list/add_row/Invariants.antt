@@ -1,7 +1,7 @@
 use Rattle.std.proofs.Common.{◌≡◌, ◌||◌, ◌*◌, ◌-◌, ◌≤◌, ℕ}
 use Rattle.gt_core.specs.Interference.{has_clause}
 use Rattle.gt_core.specs.Clauses.{IsKnownClauses}
-use Rattle.two_invariants.specs.Listed.{is_from}
+use Rattle.two_invariants.specs.own.Listed.{is_from}
 use Rattle.two_invariants.proofs.list.add_row.Given as goal
 
 abbrev pub invariant-loop-m : goal.invariant-loop-m

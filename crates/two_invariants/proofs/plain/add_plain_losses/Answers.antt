@@ -3,10 +3,10 @@ use Rattle.std.proofs.lemmas.List.{drop_all}
 use Rattle.bit_sets.specs.Rows.{row_has}
 use Rattle.gt_core.specs.Literal.{opposite}
 use Rattle.gt_core.specs.Task.{Effect}
-use Rattle.gt_core.proofs.Basics.{and_split, apart}
+use Rattle.gt_core.proofs.published.Basics.{and_split, apart}
 use Rattle.implied_literals.specs.Breaks.{is_add}
 use Rattle.implied_literals.specs.Rows.{clause_in}
-use Rattle.two_invariants.specs.Plain.{adds_plainly, takes_plainly}
+use Rattle.two_invariants.specs.own.Plain.{adds_plainly, takes_plainly}
 use Rattle.two_invariants.proofs.Firm.{nothing_more}
 use Rattle.two_invariants.proofs.Grouping.{opposite_fits}
 use Rattle.two_invariants.proofs.PlainEffects.{broken_more, in_order}

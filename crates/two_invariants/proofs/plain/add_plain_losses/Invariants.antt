@@ -1,7 +1,7 @@
 use Rattle.std.proofs.Common.{◌≡◌, ◌&&◌, ◌||◌, not, ℕ, drop, length}
 use Rattle.bit_sets.specs.Rows.{row_has}
 use Rattle.implied_literals.specs.Rows.{clause_in}
-use Rattle.two_invariants.specs.Plain.{takes_plainly}
+use Rattle.two_invariants.specs.own.Plain.{takes_plainly}
 use Rattle.two_invariants.proofs.plain.add_plain_losses.Given as goal
 
 abbrev pub invariant-loop-effect : goal.invariant-loop-effect

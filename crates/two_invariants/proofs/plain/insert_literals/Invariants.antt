@@ -1,6 +1,6 @@
 use Rattle.std.proofs.Common.{◌≡◌, ◌||◌, ℕ, drop}
 use Rattle.bit_sets.specs.Rows.{row_has}
-use Rattle.two_invariants.specs.Plain.{adds_plainly}
+use Rattle.two_invariants.specs.own.Plain.{adds_plainly}
 use Rattle.two_invariants.proofs.plain.insert_literals.Given as goal
 
 abbrev pub invariant-loop-effect : goal.invariant-loop-effect

@@ -7,7 +7,7 @@ use Rattle.std.proofs.lemmas.List.FromFn.{length-range_with_len}
 use Rattle.rayon.specs.Numbers.{nat_range}
 use Rattle.rayon.proofs.ListFacts.{AllZip-weaken, IfOk-then}
 use Rattle.rayon.proofs.ToStd.{nat_range-All}
-use Rattle.two_invariants.specs.Losses.{AreLosses}
+use Rattle.two_invariants.specs.own.Losses.{AreLosses}
 use Rattle.two_invariants.proofs.Oks.{collected}
 use Rattle.two_invariants.proofs.round.all_losses.Goals as goal
 

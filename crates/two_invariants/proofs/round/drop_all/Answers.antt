@@ -1,8 +1,8 @@
 use Rattle.std.proofs.Common.{arith, ◌≡◌, ◌∙◌, ◌&&◌, ◌||◌, ap, sym, subst, not, Bool, true, false, ℕ, ◌+◌, List, [], drop, Vec, Global}
 use Rattle.std.proofs.lemmas.List.{drop_all}
-use Rattle.gt_core.proofs.Basics.{or_left}
+use Rattle.gt_core.proofs.published.Basics.{or_left}
 use Rattle.implied_literals.specs.Rows.{clause_in}
-use Rattle.two_invariants.specs.Losses.{are_lost}
+use Rattle.two_invariants.specs.own.Losses.{are_lost}
 use Rattle.two_invariants.proofs.Grouping.{lost_more, and_one, any_among}
 use Rattle.two_invariants.proofs.Steps.{any_rest}
 use Rattle.two_invariants.proofs.Dropping.{still_either, dropped_twice, some_of, none_of}

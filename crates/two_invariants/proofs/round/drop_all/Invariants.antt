@@ -1,7 +1,7 @@
 use Rattle.std.proofs.Common.{◌≡◌, ◌&&◌, not, true, false, ℕ, length, drop}
 use Rattle.bit_sets.specs.Rows.{row_has, room}
 use Rattle.implied_literals.specs.Rows.{clause_in}
-use Rattle.two_invariants.specs.Losses.{are_lost, IsDropped}
+use Rattle.two_invariants.specs.own.Losses.{are_lost, IsDropped}
 use Rattle.two_invariants.proofs.round.drop_all.Given as goal
 
 abbrev pub invariant-loop-table : goal.invariant-loop-table

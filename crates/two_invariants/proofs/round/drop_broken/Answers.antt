@@ -4,10 +4,10 @@ use Rattle.std.specs.List.{AllByRecursion}
 use Rattle.gt_core.specs.Task.{Action}
 use Rattle.implied_literals.specs.Rows.{clause_in}
 use Rattle.implied_literals.specs.declared.known.Known.{Known}
-use Rattle.gt_core.proofs.Basics.{and_split}
-use Rattle.gt_core.proofs.Lists.{each_number}
-use Rattle.implied_literals.proofs.Steps.{opposite_below}
-use Rattle.two_invariants.specs.Losses.{CanTest, AreAllLosses}
+use Rattle.gt_core.proofs.published.Basics.{and_split}
+use Rattle.gt_core.proofs.published.Lists.{each_number}
+use Rattle.implied_literals.proofs.published.Steps.{opposite_below}
+use Rattle.two_invariants.specs.own.Losses.{CanTest, AreAllLosses}
 use Rattle.two_invariants.proofs.RoundLaw.{known_fit, actions_fit, fits_at, pieces_fit, round_is}
 use Rattle.two_invariants.proofs.round.drop_broken.Goals as goal
 

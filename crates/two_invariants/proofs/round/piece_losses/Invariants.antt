@@ -1,5 +1,5 @@
 use Rattle.std.proofs.Common.{◌*◌}
-use Rattle.two_invariants.specs.Losses.{AreLosses}
+use Rattle.two_invariants.specs.own.Losses.{AreLosses}
 use Rattle.two_invariants.proofs.round.piece_losses.Given as goal
 
 abbrev pub invariant-loop-i : goal.invariant-loop-i

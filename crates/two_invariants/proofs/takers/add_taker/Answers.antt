@@ -1,9 +1,9 @@
 use Rattle.std.proofs.Common.{◌≡◌, ◌∙◌, ◌*◌, ◌<◌, ◌==◌, ◌&&◌, ◌⊎◌, inl, inr, ap, sym, subst, not, true, length, vec_len, List, ℕ, rules}
 use Rattle.std.specs.List.{AllByRecursion}
 use Rattle.bit_sets.specs.Rows.{row_has}
-use Rattle.gt_core.proofs.Basics.{or_split, or_left, or_right, and_both}
+use Rattle.gt_core.proofs.published.Basics.{or_split, or_left, or_right, and_both}
 use Rattle.implied_literals.specs.Tested.{with_more, has_no_pair}
-use Rattle.implied_literals.proofs.Exact.{pair_test_is}
+use Rattle.implied_literals.proofs.published.Exact.{pair_test_is}
 use Rattle.two_invariants.proofs.Steps.{more_within}
 use Rattle.two_invariants.proofs.takers.add_taker.Goals as goal
 

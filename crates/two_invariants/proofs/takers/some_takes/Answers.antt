@@ -2,8 +2,8 @@ use Rattle.std.proofs.Common.{arith, ◌≡◌, ◌∙◌, ◌==◌, ap, sym, su
 use Rattle.std.specs.List.{list_any}
 use Rattle.std.proofs.Math.Seq.{take-length}
 use Rattle.std.proofs.lemmas.List.Folds.{list_any_more}
-use Rattle.gt_core.proofs.Basics.{or_split, test_same}
-use Rattle.two_invariants.specs.Index.{IsNumbered}
+use Rattle.gt_core.proofs.published.Basics.{or_split, test_same}
+use Rattle.two_invariants.specs.own.Index.{IsNumbered}
 use Rattle.two_invariants.proofs.takers.some_takes.Goals as goal
 
 pub returns-clause-none : goal.returns-clause-none

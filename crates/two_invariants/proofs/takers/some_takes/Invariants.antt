@@ -1,7 +1,7 @@
 use Rattle.std.proofs.Common.{◌≡◌, ◌==◌, ℕ, true, false, take}
 use Rattle.std.specs.List.{list_any}
 use Rattle.bit_sets.specs.Rows.{row_has}
-use Rattle.two_invariants.specs.Index.{IsNumbered, takes_in}
+use Rattle.two_invariants.specs.own.Index.{IsNumbered, takes_in}
 use Rattle.two_invariants.specs.declared.groups.Group.{Group}
 use Rattle.two_invariants.proofs.takers.some_takes.Given as goal
 

@@ -1,9 +1,9 @@
 use Rattle.std.proofs.Common.{arith, ◌≡◌, ◌+◌, ◌<◌, ◌≤◌, ◌&&◌, ◌⊎◌, inl, inr, subst, true, false, ℕ}
 use Rattle.std.proofs.lemmas.Bool.{cases_lt}
 use Rattle.bit_sets.specs.Rows.{row_has}
-use Rattle.gt_core.proofs.Basics.{apart, cases, and_split, and_both}
-use Rattle.two_invariants.specs.Numbers.{finds}
-use Rattle.two_invariants.specs.Index.{IsNumbered, takes_in}
+use Rattle.gt_core.proofs.published.Basics.{apart, cases, and_split, and_both}
+use Rattle.two_invariants.specs.own.Numbers.{finds}
+use Rattle.two_invariants.specs.own.Index.{IsNumbered, takes_in}
 use Rattle.two_invariants.specs.declared.groups.Group.{Group}
 use Rattle.two_invariants.proofs.takers.take_all_listed.Goals as goal
 

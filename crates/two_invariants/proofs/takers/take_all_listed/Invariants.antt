@@ -1,9 +1,9 @@
 use Rattle.std.proofs.Common.{◌≡◌, ◌<◌, ◌-◌, ◌*◌, ℕ, true, false}
 use Rattle.bit_sets.specs.Rows.{row_has}
 use Rattle.implied_literals.specs.Rows.{IsPart}
-use Rattle.two_invariants.specs.Groups.{group_with, may_lose}
-use Rattle.two_invariants.specs.Numbers.{finds}
-use Rattle.two_invariants.specs.Index.{IsNumbered, takes_in}
+use Rattle.two_invariants.specs.own.Groups.{group_with, may_lose}
+use Rattle.two_invariants.specs.own.Numbers.{finds}
+use Rattle.two_invariants.specs.own.Index.{IsNumbered, takes_in}
 use Rattle.two_invariants.specs.declared.groups.Group.{Group}
 use Rattle.two_invariants.proofs.takers.take_all_listed.Given as goal
 

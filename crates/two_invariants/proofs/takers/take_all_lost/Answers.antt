@@ -1,8 +1,8 @@
 use Rattle.std.proofs.Common.{arith, ◌*◌, ◌<◌, ◌==◌, length, subst, ℕ}
 use Rattle.bit_sets.specs.Rows.{row_has}
 use Rattle.gt_core.specs.Literal.{opposite}
-use Rattle.gt_core.proofs.Literals.{opposite_twice}
-use Rattle.implied_literals.proofs.Steps.{opposite_below}
+use Rattle.gt_core.proofs.published.Literals.{opposite_twice}
+use Rattle.implied_literals.proofs.published.Steps.{opposite_below}
 use Rattle.two_invariants.proofs.Indexing.{given_within, left_is}
 use Rattle.two_invariants.proofs.takers.take_all_lost.Goals as goal
 

@@ -1,8 +1,8 @@
 use Rattle.std.proofs.Common.{◌≡◌, ◌∙◌, ◌==◌, ◌&&◌, ap, sym, subst, not, true, false, refl, Bool, ℕ}
 use Rattle.bit_sets.specs.Rows.{row_has}
-use Rattle.gt_core.proofs.Basics.{test_same}
+use Rattle.gt_core.proofs.published.Basics.{test_same}
 use Rattle.implied_literals.specs.Breaks.{is_add}
-use Rattle.two_invariants.specs.Groups.{group_with, may_lose}
+use Rattle.two_invariants.specs.own.Groups.{group_with, may_lose}
 use Rattle.two_invariants.proofs.Indexing.{overruled}
 use Rattle.two_invariants.proofs.takers.take_by_listed.Goals as goal
 

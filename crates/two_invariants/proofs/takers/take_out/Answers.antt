@@ -1,6 +1,6 @@
 use Rattle.std.proofs.Common.{◌≡◌, ◌&&◌, not, Bool, ℕ, true, subst, arith}
 use Rattle.bit_sets.specs.Rows.{row_has}
-use Rattle.gt_core.proofs.Basics.{and_split}
+use Rattle.gt_core.proofs.published.Basics.{and_split}
 use Rattle.implied_literals.specs.Breaks.{is_add}
 use Rattle.two_invariants.proofs.Grouping.{taken_next, less_apart, own_part}
 use Rattle.two_invariants.proofs.takers.take_out.Goals as goal

@@ -1,10 +1,10 @@
 use Rattle.std.proofs.Common.{◌*◌, length, refl, arith, ◌≡◌, ℕ, subst}
 use Rattle.std.proofs.lemmas.Option.{slice_get_read}
 use Rattle.bit_sets.specs.Rows.{row_has}
-use Rattle.two_invariants.specs.Groups.{GroupFits}
+use Rattle.two_invariants.specs.own.Groups.{GroupFits}
 use Rattle.two_invariants.proofs.Grouping.{all_read}
 use Rattle.two_invariants.proofs.Counting.{more_takers}
-use Rattle.two_invariants.specs.Index.{AreTakers}
+use Rattle.two_invariants.specs.own.Index.{AreTakers}
 use Rattle.two_invariants.proofs.takers.takers_of.Goals as goal
 
 pub loop-number-preserved : goal.loop-number-preserved

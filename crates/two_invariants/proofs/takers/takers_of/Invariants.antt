@@ -1,5 +1,5 @@
 use Rattle.bit_sets.specs.Rows.{row_has}
-use Rattle.two_invariants.specs.Index.{AreTakers}
+use Rattle.two_invariants.specs.own.Index.{AreTakers}
 use Rattle.two_invariants.proofs.takers.takers_of.Given as goal
 
 abbrev pub invariant-loop-number : goal.invariant-loop-number

@@ -3,8 +3,8 @@ use Rattle.std.specs.List.{list_all, AllByRecursion}
 use Rattle.bit_sets.specs.Rows.{row_has}
 use Rattle.implied_literals.specs.Breaks.{is_add}
 use Rattle.implied_literals.specs.Tested.{with_more, has_no_pair}
-use Rattle.two_invariants.specs.Groups.{group_with}
-use Rattle.implied_literals.proofs.Exact.{pair_test_is}
+use Rattle.two_invariants.specs.own.Groups.{group_with}
+use Rattle.implied_literals.proofs.published.Exact.{pair_test_is}
 use Rattle.two_invariants.proofs.Steps.{more_within}
 use Rattle.two_invariants.proofs.Indexing.{givers_more, more_of}
 use Rattle.two_invariants.proofs.Taking.{takes_none, takes_where}

@@ -1,7 +1,7 @@
 use Rattle.std.proofs.Common.{◌≡◌, ◌∙◌, ◌*◌, length, refl, sym, subst, false}
 use Rattle.std.proofs.lemmas.Option.{slice_get_read}
 use Rattle.bit_sets.specs.Rows.{row_has}
-use Rattle.two_invariants.specs.Index.{takes_in}
+use Rattle.two_invariants.specs.own.Index.{takes_in}
 use Rattle.two_invariants.specs.declared.groups.Group.{Group}
 use Rattle.two_invariants.proofs.Counting.{same_group}
 use Rattle.two_invariants.proofs.Taking.{takes_loses}

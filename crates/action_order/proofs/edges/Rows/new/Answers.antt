@@ -1,8 +1,8 @@
 use Rattle.std.proofs.Common.{arith, ◌*◌, ◌<◌, ℕ, subst}
 use Rattle.std.specs.List.{AllByRecursion}
 use Rattle.action_order.proofs.EdgesLaw.{each_row}
-use Rattle.action_order.specs.Edges.{surely}
-use Rattle.action_order.specs.Readers.{AreRowsOf, AreExclusions}
+use Rattle.action_order.specs.own.Edges.{surely}
+use Rattle.action_order.specs.own.Readers.{AreRowsOf, AreExclusions}
 use Rattle.action_order.proofs.edges.Rows.new.Goals as goal
 
 pub find_makers-requires-clause-below : goal.find_makers-requires-clause-below

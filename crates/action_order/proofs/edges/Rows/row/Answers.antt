@@ -2,9 +2,9 @@ use Rattle.std.proofs.Common.{arith, ◌≡◌, ◌==◌, ◌&&◌, ◌||◌, �
 use Rattle.std.proofs.lemmas.List.{get_or_read}
 use Rattle.bit_sets.specs.Rows.{row_has}
 use Rattle.gt_core.specs.Task.{Action}
-use Rattle.action_order.specs.Graph.{row_at}
-use Rattle.action_order.specs.Readers.{act_at, ActionWithin}
-use Rattle.action_order.specs.Edges.{is_touched, is_in_rows, is_opposed}
+use Rattle.action_order.specs.own.Graph.{row_at}
+use Rattle.action_order.specs.own.Readers.{act_at, ActionWithin}
+use Rattle.action_order.specs.own.Edges.{is_touched, is_in_rows, is_opposed}
 use Rattle.action_order.proofs.ReadersLaw.{act_is, within_at}
 use Rattle.action_order.proofs.EdgesLaw.{touched_is, excluding_is, edge_is}
 use Rattle.action_order.proofs.edges.Rows.row.Goals as goal

@@ -1,5 +1,5 @@
 use Rattle.std.proofs.lemmas.List.{get_or_read}
-use Rattle.action_order.proofs.Lists.{in_at}
+use Rattle.action_order.proofs.published.Lists.{in_at}
 use Rattle.action_order.proofs.order.Order.at.Goals as goal
 
 pub returns-clause-among : goal.returns-clause-among

@@ -1,7 +1,7 @@
 use Rattle.std.proofs.Common.{arith, ◌≡◌, ◌+◌, ◌-◌, ℕ, List, ◌∷◌, length, take, drop, length-drop, ap, sym, ◌∙◌, subst}
 use Rattle.std.proofs.lemmas.List.{at_drop_more, drop_all, take_all}
-use Rattle.action_order.specs.Graph.{item}
-use Rattle.action_order.specs.SortingOf.{IsSortingOf}
+use Rattle.action_order.specs.own.Graph.{item}
+use Rattle.action_order.specs.own.SortingOf.{IsSortingOf}
 use Rattle.action_order.proofs.sort.TopologicalSort.release.Goals as goal
 
 rest : (xs : List ℕ) (i : ℕ) → take (length xs - i) (drop i xs) ≡ drop i xs

@@ -1,5 +1,5 @@
 use Rattle.std.proofs.Common.{◌≡◌, drop}
-use Rattle.action_order.specs.SortingOf.{IsSortingOf}
+use Rattle.action_order.specs.own.SortingOf.{IsSortingOf}
 use Rattle.action_order.proofs.sort.TopologicalSort.release.Given as goal
 
 abbrev pub invariant-loop-i : goal.invariant-loop-i

@@ -1,7 +1,7 @@
 use Rattle.std.proofs.Common.{arith, ◌≡◌, ◌<◌, ℕ, List, [], Bool, false, Option, Some, None, get_or, length, vec_len, sym, ◌∙◌, subst, rules}
 use Rattle.std.proofs.lemmas.List.{get_or_read}
-use Rattle.action_order.specs.Graph.{class_at}
-use Rattle.action_order.specs.Sorting.{is_taken, IsPending}
+use Rattle.action_order.specs.own.Graph.{class_at}
+use Rattle.action_order.specs.own.Sorting.{is_taken, IsPending}
 use Rattle.action_order.proofs.SortingLaw.{passed_more, all_found, waits_for, gets_ready}
 use Rattle.action_order.proofs.sort.TopologicalSort.settle.Goals as goal
 

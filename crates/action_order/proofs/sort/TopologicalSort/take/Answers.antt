@@ -1,8 +1,8 @@
 use Rattle.std.proofs.Common.{arith, ◌≡◌, ◌<◌, [], length, refl, ◌∙◌}
 use Rattle.std.proofs.lemmas.List.{get_or_read}
-use Rattle.action_order.specs.Graph.{item}
-use Rattle.action_order.specs.Sorting.{list_at}
-use Rattle.action_order.proofs.Lists.{in_at}
+use Rattle.action_order.specs.own.Graph.{item}
+use Rattle.action_order.specs.own.Sorting.{list_at}
+use Rattle.action_order.proofs.published.Lists.{in_at}
 use Rattle.action_order.proofs.SortingLaw.{taken_one}
 use Rattle.action_order.proofs.sort.TopologicalSort.take.Goals as goal
 

@@ -1,8 +1,8 @@
 use Rattle.std.proofs.Common.{arith, ◌≡◌, ◌<◌, ℕ, List, ◌+◌, vec_len, length, take, ◌-◌, rules}
 use Rattle.std.proofs.lemmas.List.{get_or_read, length-take-le}
-use Rattle.action_order.specs.Walk.{MarksFrom, TakesFrom}
+use Rattle.action_order.specs.own.Walk.{MarksFrom, TakesFrom}
 use Rattle.action_order.specs.declared.walk.Mark.TheVariants.{Done}
-use Rattle.action_order.proofs.Lists.{front_last, last_in}
+use Rattle.action_order.proofs.published.Lists.{front_last, last_in}
 use Rattle.action_order.proofs.MoveLaw.{same_unseen}
 use Rattle.action_order.proofs.CloseLaw.{closed, closed_sets, closed_keeps, closed_unseen}
 use Rattle.action_order.proofs.walk.Walk.close.Goals as goal

@@ -1,6 +1,6 @@
 use Rattle.std.proofs.Common.{◌≡◌, vec_len, length, true, false, sym, ◌∙◌, rules}
-use Rattle.action_order.specs.Walk.{ends_past}
-use Rattle.action_order.proofs.Lists.{front_last, last_past, none_past}
+use Rattle.action_order.specs.own.Walk.{ends_past}
+use Rattle.action_order.proofs.published.Lists.{front_last, last_past, none_past}
 use Rattle.action_order.proofs.WalkLaw.{joined_once}
 use Rattle.action_order.proofs.walk.Walk.join.Goals as goal
 

@@ -1,5 +1,5 @@
 use Rattle.std.proofs.Common.{vec_len, ◌≡◌}
-use Rattle.action_order.specs.Walk.{IsWalkOf}
+use Rattle.action_order.specs.own.Walk.{IsWalkOf}
 use Rattle.action_order.proofs.walk.Walk.join.Given as goal
 
 abbrev pub invariant-loop-self : goal.invariant-loop-self

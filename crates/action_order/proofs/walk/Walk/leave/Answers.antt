@@ -1,5 +1,5 @@
 use Rattle.std.proofs.Common.{◌≡◌, vec_len, length, rules}
-use Rattle.action_order.proofs.Lists.{front_last}
+use Rattle.action_order.proofs.published.Lists.{front_last}
 use Rattle.action_order.proofs.WalkLaw.{left}
 use Rattle.action_order.proofs.walk.Walk.leave.Goals as goal
 

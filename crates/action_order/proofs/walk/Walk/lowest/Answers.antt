@@ -1,7 +1,7 @@
 use Rattle.std.proofs.Common.{arith, ◌&&◌, ◌<◌, ◌+◌, ℕ, List, [], length, sym, ap, ◌∙◌, subst}
 use Rattle.std.proofs.lemmas.List.{get_or_read}
 use Rattle.bit_sets.specs.Rows.{row_has, IsLeastFrom}
-use Rattle.action_order.specs.Walk.{place_of, IsLowestBelow}
+use Rattle.action_order.specs.own.Walk.{place_of, IsLowestBelow}
 use Rattle.action_order.specs.declared.walk.Mark.TheVariants.{Unseen}
 use Rattle.action_order.proofs.WalkLaw.{lowest_more, lowest_all, lowest_bottom, common_in, common_none, common_below}
 use Rattle.action_order.proofs.walk.Walk.lowest.Goals as goal

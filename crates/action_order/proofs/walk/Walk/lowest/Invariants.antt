@@ -1,5 +1,5 @@
 use Rattle.std.proofs.Common.{◌-◌, length}
-use Rattle.action_order.specs.Walk.{IsLowestBelow}
+use Rattle.action_order.specs.own.Walk.{IsLowestBelow}
 use Rattle.action_order.proofs.walk.Walk.lowest.Given as goal
 
 abbrev pub invariant-look : goal.invariant-look

@@ -1,7 +1,7 @@
 use Rattle.std.proofs.Common.{List, sym, subst, Some}
-use Rattle.action_order.specs.Walk.{IsLowest, AllReach}
+use Rattle.action_order.specs.own.Walk.{IsLowest, AllReach}
 use Rattle.action_order.specs.declared.walk.Mark.{Mark}
-use Rattle.action_order.proofs.Lists.{reaches_more, reaches_edge}
+use Rattle.action_order.proofs.published.Lists.{reaches_more, reaches_edge}
 use Rattle.action_order.proofs.WalkLaw.{lowest_place}
 use Rattle.action_order.proofs.walk.Walk.open.Goals as goal
 

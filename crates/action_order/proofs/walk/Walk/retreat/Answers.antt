@@ -1,5 +1,5 @@
 use Rattle.std.proofs.Common.{◌≡◌, false, sym, ◌∙◌}
-use Rattle.action_order.specs.Walk.{ends_with}
+use Rattle.action_order.specs.own.Walk.{ends_with}
 use Rattle.action_order.proofs.MoveLaw.{no_start}
 use Rattle.action_order.proofs.walk.Walk.retreat.Goals as goal
 

@@ -3,9 +3,9 @@ use Rattle.std.specs.Prelude.{nat_lt}
 use Rattle.std.proofs.lemmas.List.{get_or_read, length_push}
 use Rattle.std.proofs.lemmas.Bool.Decides.{nat_tests}
 use Rattle.bit_sets.specs.Rows.{row_has}
-use Rattle.gt_core.proofs.Basics.{and_split, and_both, apart}
-use Rattle.action_order.specs.Graph.{item, leads}
-use Rattle.action_order.specs.Walk.{is_unseen, KeepsSeen}
+use Rattle.gt_core.proofs.published.Basics.{and_split, and_both, apart}
+use Rattle.action_order.specs.own.Graph.{item, leads}
+use Rattle.action_order.specs.own.Walk.{is_unseen, KeepsSeen}
 use Rattle.action_order.specs.declared.walk.Mark.TheVariants.{At}
 use Rattle.action_order.proofs.WalkLaw.{common_none, unseen_is, keeps_marked}
 use Rattle.action_order.proofs.MoveLaw.{last_place, next_found, next_leads, all_reach, fewer_unseen}

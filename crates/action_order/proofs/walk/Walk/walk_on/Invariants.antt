@@ -1,4 +1,4 @@
-use Rattle.action_order.specs.Walk.{IsWalkOf, KeepsSeen, work_left}
+use Rattle.action_order.specs.own.Walk.{IsWalkOf, KeepsSeen, work_left}
 use Rattle.action_order.proofs.walk.Walk.walk_on.Given as goal
 
 abbrev pub invariant-loop-self : goal.invariant-loop-self

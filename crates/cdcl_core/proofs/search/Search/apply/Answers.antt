@@ -1,12 +1,12 @@
 use Rattle.std.proofs.Common.{[], subst, sym}
 use Rattle.clause_base.specs.Clause.{IsClause}
-use Rattle.cdcl_rules.specs.declared.event.Event.{Event}
-use Rattle.cdcl_rules.specs.declared.event.Event.TheVariants.{Conflict, Finish}
-use Rattle.cdcl_rules.specs.Learn.{learned, Learned}
-use Rattle.cdcl_rules.specs.Run.{with_learned, after_conflict}
-use Rattle.cdcl_rules.specs.Sound.{IsSound}
-use Rattle.cdcl_rules.specs.Trail.{AllFalse}
-use Rattle.cdcl_core.specs.Search.{SearchView, IsNextEvent}
+use Rattle.cdcl_defs.specs.declared.event.Event.{Event}
+use Rattle.cdcl_defs.specs.declared.event.Event.TheVariants.{Conflict, Finish}
+use Rattle.cdcl_defs.specs.Learn.{learned, Learned}
+use Rattle.cdcl_defs.specs.Run.{with_learned, after_conflict}
+use Rattle.cdcl_defs.specs.Sound.{IsSound}
+use Rattle.cdcl_defs.specs.Trail.{AllFalse}
+use Rattle.cdcl_core.specs.own.Search.{SearchView, IsNextEvent}
 use Rattle.cdcl_core.proofs.Keeps.{learned_same, learned_is_clause, learned_is_false, undropped_sound, next_sound}
 use Rattle.cdcl_core.proofs.Entries.{IsEntry, MayAssign, may_assign}
 use Rattle.cdcl_core.proofs.search.Search.apply.Goals as goal

@@ -1,5 +1,5 @@
 use Rattle.std.proofs.Common.{◌≡◌, subst}
-use Rattle.cdcl_core.specs.Search.{SearchView, asked_first}
+use Rattle.cdcl_core.specs.own.Search.{SearchView, asked_first}
 use Rattle.cdcl_core.proofs.Watching.{watched_going, first_watched}
 use Rattle.cdcl_core.proofs.search.Search.asked.Goals as goal
 

@@ -1,11 +1,11 @@
 use Rattle.std.proofs.Common.{◌≡◌, ◌==◌, ℕ, List, [], ◌++◌, length, map, refl, true, false, ap, sym, ◌∙◌, subst}
 use Rattle.clause_base.specs.declared.log.Entry.TheVariants.{Drop}
-use Rattle.cdcl_rules.specs.declared.trail.Assigned.{Assigned}
-use Rattle.cdcl_rules.specs.Run.{with_learned, trail_after, dropped_after}
-use Rattle.cdcl_rules.specs.Reduce.{candidates, first_half, kept_without}
-use Rattle.conflict_walk.specs.Clauses.{ClausesView, all_clauses}
-use Rattle.cdcl_rules.specs.Learn.{backtracked}
-use Rattle.cdcl_core.specs.Search.{SearchView, IsKept, watched, level_after}
+use Rattle.cdcl_defs.specs.declared.trail.Assigned.{Assigned}
+use Rattle.cdcl_defs.specs.Run.{with_learned, trail_after, dropped_after}
+use Rattle.cdcl_defs.specs.Reduce.{candidates, first_half, kept_without}
+use Rattle.conflict_analysis.specs.Clauses.{ClausesView, all_clauses}
+use Rattle.cdcl_defs.specs.Learn.{backtracked}
+use Rattle.cdcl_core.specs.own.Search.{SearchView, IsKept, watched, level_after}
 use Rattle.propagation.specs.Pending.{PropagatorView}
 use Rattle.cdcl_core.proofs.Watching.{search_of, watched_going, watched_learned}
 use Rattle.cdcl_core.proofs.Entered.{entered_clauses, entered, gone_back, dropped_none, dropped_half, dropped_clauses}

@@ -1,12 +1,12 @@
 use Rattle.std.proofs.Common.{◌∙◌, ◌<◌, ℕ, List, length, subst, sym}
-use Rattle.cdcl_rules.specs.declared.event.Event.TheVariants.{Conflict}
+use Rattle.cdcl_defs.specs.declared.event.Event.TheVariants.{Conflict}
 use Rattle.clause_base.specs.Clause.{IsRising}
-use Rattle.cdcl_rules.specs.State.{clause_at}
-use Rattle.cdcl_rules.specs.Trail.{AllFalse}
-use Rattle.cdcl_trail.specs.Mirrored.{TrailView}
-use Rattle.conflict_walk.specs.Clauses.{all_clauses}
-use Rattle.conflict_walk.specs.Walk.{IsReasoned}
-use Rattle.cdcl_core.specs.Search.{SearchView, IsNextEvent, state_of}
+use Rattle.cdcl_defs.specs.State.{clause_at}
+use Rattle.cdcl_defs.specs.Trail.{AllFalse}
+use Rattle.cdcl_tables.specs.Mirrored.{TrailView}
+use Rattle.conflict_analysis.specs.Clauses.{all_clauses}
+use Rattle.conflict_analysis.specs.Walk.{IsReasoned}
+use Rattle.cdcl_core.specs.own.Search.{SearchView, IsNextEvent, state_of}
 use Rattle.cdcl_core.proofs.Keeps.{conflict_is}
 use Rattle.cdcl_core.proofs.Watching.{watched_all}
 use Rattle.cdcl_core.proofs.Reasons.{sound_reasoned}

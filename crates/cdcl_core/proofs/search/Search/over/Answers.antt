@@ -1,5 +1,5 @@
 use Rattle.std.proofs.Common.{ℕ, subst}
-use Rattle.conflict_walk.specs.Analysis.{IsReady}
+use Rattle.conflict_analysis.specs.Analysis.{IsReady}
 use Rattle.cdcl_core.proofs.Keeps.{kept_start}
 use Rattle.cdcl_core.proofs.search.Search.over.Goals as goal
 

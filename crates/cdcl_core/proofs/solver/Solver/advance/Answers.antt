@@ -1,13 +1,13 @@
 use Rattle.std.proofs.Common.{◌≤◌, ◌+◌, sym, subst, Result, Ok, Err, OnOk}
-use Rattle.cdcl_rules.specs.State.{State}
-use Rattle.cdcl_rules.specs.Open.{Opens}
-use Rattle.cdcl_rules.specs.Sound.{IsSound}
-use Rattle.cdcl_rules.proofs.Fuel.{after_is}
-use Rattle.cdcl_rules.proofs.Cuts.{adds_up, after_within, settled_stays}
-use Rattle.cdcl_rules.proofs.Stops.{grants, rests_always}
-use Rattle.cdcl_rules.specs.Laws.{AddsUp, ComesToRestAlways, Grants}
-use Rattle.cdcl_core.specs.Between.{IsShortBetween}
-use Rattle.cdcl_core.specs.Search.{SolverView}
+use Rattle.cdcl_defs.specs.State.{State}
+use Rattle.cdcl_defs.specs.Open.{Opens}
+use Rattle.cdcl_defs.specs.Sound.{IsSound}
+use Rattle.cdcl_defs.proofs.published.Fuel.{after_is}
+use Rattle.cdcl_defs.proofs.published.Cuts.{adds_up, after_within, settled_stays}
+use Rattle.cdcl_defs.proofs.published.Stops.{grants, rests_always}
+use Rattle.cdcl_defs.specs.Laws.{AddsUp, ComesToRestAlways, Grants}
+use Rattle.cdcl_core.specs.own.Between.{IsShortBetween}
+use Rattle.cdcl_core.specs.own.Search.{SolverView}
 use Rattle.cdcl_core.proofs.Shorts.{short_between}
 use Rattle.cdcl_core.proofs.solver.Solver.advance.Given as given
 use Rattle.cdcl_core.proofs.solver.Solver.advance.Goals as goal

@@ -1,7 +1,7 @@
 use Rattle.std.proofs.Common.{arith, ◌≡◌, ◌∙◌, List, true, length, ap, sym, subst}
 use Rattle.clause_base.specs.Formula.{Cnf}
-use Rattle.cdcl_rules.specs.declared.trail.Assigned.{Assigned}
-use Rattle.cdcl_rules.specs.Run.{is_conflict}
+use Rattle.cdcl_defs.specs.declared.trail.Assigned.{Assigned}
+use Rattle.cdcl_defs.specs.Run.{is_conflict}
 use Rattle.cdcl_core.proofs.Told.{told_on}
 use Rattle.cdcl_core.proofs.solver.Solver.apply.Goals as goal
 

@@ -2,10 +2,10 @@ use Rattle.std.proofs.Common.{◌≡◌, ℕ, length, sym, ap, ◌∙◌, subst}
 use Rattle.clause_base.specs.Choice.{Known}
 use Rattle.clause_base.specs.Derivation.{clause_kept}
 use Rattle.clause_base.specs.Told.{told_values}
-use Rattle.cdcl_rules.proofs.Measure.{length-values_from}
-use Rattle.cdcl_rules.specs.Sound.{IsSound}
-use Rattle.cdcl_core.specs.Search.{SearchView, SolverView}
-use Rattle.cdcl_trail.specs.Assignment.{literals}
+use Rattle.cdcl_defs.proofs.published.Measure.{length-values_from}
+use Rattle.cdcl_defs.specs.Sound.{IsSound}
+use Rattle.cdcl_core.specs.own.Search.{SearchView, SolverView}
+use Rattle.cdcl_tables.specs.Assignment.{literals}
 use Rattle.cdcl_core.proofs.Told.{told_are_values}
 use Rattle.cdcl_core.proofs.solver.Solver.choice.Goals as goal
 

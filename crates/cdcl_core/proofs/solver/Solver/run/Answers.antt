@@ -1,9 +1,9 @@
 use Rattle.std.proofs.Common.{◌≡◌, ◌+◌, ◌&&◌, nat_le, sym, ◌∙◌, ap, subst, false, true}
-use Rattle.cdcl_rules.specs.Event.{event_of}
-use Rattle.cdcl_rules.specs.Run.{apply, is_going, is_conflict}
-use Rattle.cdcl_rules.proofs.Advance.{one_on, conflicts_stay, conflict_below}
-use Rattle.cdcl_rules.proofs.Fuel.{left_falls}
-use Rattle.cdcl_core.specs.Search.{SolverView, IsNextEvent, GoesOn}
+use Rattle.cdcl_defs.specs.Event.{event_of}
+use Rattle.cdcl_defs.specs.Run.{apply, is_going, is_conflict}
+use Rattle.cdcl_defs.proofs.published.Advance.{one_on, conflicts_stay, conflict_below}
+use Rattle.cdcl_defs.proofs.published.Fuel.{left_falls}
+use Rattle.cdcl_core.specs.own.Search.{SolverView, IsNextEvent, GoesOn}
 use Rattle.cdcl_core.proofs.Keeps.{next_open}
 use Rattle.cdcl_core.proofs.Logs.{goes_then, goes_reached, goes_err}
 use Rattle.cdcl_core.proofs.solver.Solver.run.Goals as goal

@@ -1,7 +1,7 @@
 use Rattle.std.proofs.Common.{◌≡◌, ◌≤◌, false}
-use Rattle.cdcl_rules.specs.Run.{next, rests}
-use Rattle.cdcl_rules.proofs.Cutting.{Reaches}
-use Rattle.cdcl_rules.proofs.Fuel.{left}
+use Rattle.cdcl_defs.specs.Run.{next, rests}
+use Rattle.cdcl_defs.proofs.published.Cutting.{Reaches}
+use Rattle.cdcl_defs.proofs.published.Fuel.{left}
 use Rattle.cdcl_core.proofs.solver.Solver.run.Given as goal
 
 abbrev pub invariant-loop-self : goal.invariant-loop-self

@@ -1,8 +1,9 @@
 use Rattle.std.proofs.Common.{◌≡◌, ◌∙◌, ◌++◌, append-nil, ◌∷◌, [], sym, ap, subst, fold, false, true, Bool, List, ℕ, Option, Some, None, Result, Ok, Err, OnOk, if◌then◌else◌}
 use Rattle.std.specs.Option.{option_to_list}
 use Rattle.containers.specs.declared.memory.Memory.{Memory}
-use Rattle.clause_base.specs.Clause.{IsClause, IsRising, clause_of, has_opposite_pair, put}
-use Rattle.clause_base.proofs.ClauseLemmas.{clause-fold, rising-fold, pair-fold}
+use Rattle.clause_base.specs.Clause.{IsClause, IsRising, clause_of, has_opposite_pair}
+use Rattle.containers.specs.Rising.{put}
+use Rattle.clause_base.proofs.published.ClauseLemmas.{clause-fold, rising-fold, pair-fold}
 use Rattle.clause_base.proofs.clause_list.ClauseList.add_of.Goals as goal
 
 -- the sorted literals are the clause of the given ones, where they have no opposite pair

@@ -1,5 +1,5 @@
 use Rattle.std.proofs.Common.{arith, length, ℕ, All, ◌≡◌, ◌+◌, ◌*◌, ◌<◌, ◌∙◌}
-use Rattle.clause_base.proofs.PairTables.{end_at, end_within, table_laid}
+use Rattle.clause_base.proofs.published.PairTables.{end_at, end_within, table_laid}
 use Rattle.clause_base.proofs.pair_table.PairTable.new.Goals as goal
 
 pub fill-requires-clause-ends : goal.fill-requires-clause-ends

@@ -1,7 +1,7 @@
 use Rattle.std.proofs.Common.{arith, length, ◌+◌, ◌-◌, ◌<◌, ◌≤◌, List, take, drop, sym, ap, ◌∙◌}
 use Rattle.clause_base.specs.declared.pair.Pair.{Pair}
 use Rattle.clause_base.specs.Pairs.{pairs_of}
-use Rattle.clause_base.proofs.PairTables.{row_past, row_read, ends_read}
+use Rattle.clause_base.proofs.published.PairTables.{row_past, row_read, ends_read}
 use Rattle.clause_base.proofs.pair_table.PairTable.row.Goals as goal
 
 pub returns-then-code-len : goal.returns-then-code-len

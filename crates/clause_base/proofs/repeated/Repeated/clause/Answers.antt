@@ -3,7 +3,7 @@ use Rattle.std.specs.List.{slice_get}
 use Rattle.clause_base.specs.Clause.{IsClause, HasVariablesBelow}
 use Rattle.clause_base.specs.Repeats.{all_steps, all_times, repeated, variables_of}
 use Rattle.clause_base.proofs.PieceLemmas.{holds_at}
-use Rattle.clause_base.proofs.RepeatLemmas.{length_repeated, get_left, get_right}
+use Rattle.clause_base.proofs.published.RepeatLemmas.{length_repeated, get_left, get_right}
 use Rattle.clause_base.proofs.repeated.Repeated.clause.Goals as goal
 
 pub clause_of_times-requires : goal.clause_of_times-requires

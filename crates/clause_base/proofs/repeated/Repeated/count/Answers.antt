@@ -1,4 +1,4 @@
-use Rattle.clause_base.proofs.RepeatLemmas.{count_value, lawful_now, below_now}
+use Rattle.clause_base.proofs.published.RepeatLemmas.{count_value, lawful_now, below_now}
 use Rattle.clause_base.proofs.repeated.Repeated.count.Goals as goal
 
 pub returns-clause-value : goal.returns-clause-value

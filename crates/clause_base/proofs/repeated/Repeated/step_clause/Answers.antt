@@ -1,4 +1,4 @@
-use Rattle.clause_base.proofs.RepeatLemmas.{step_clause_is}
+use Rattle.clause_base.proofs.published.RepeatLemmas.{step_clause_is}
 use Rattle.clause_base.proofs.repeated.Repeated.step_clause.Goals as goal
 
 pub returns : goal.returns

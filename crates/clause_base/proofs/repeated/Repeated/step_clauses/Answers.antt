@@ -1,4 +1,4 @@
-use Rattle.clause_base.proofs.RepeatLemmas.{steps_value}
+use Rattle.clause_base.proofs.published.RepeatLemmas.{steps_value}
 use Rattle.clause_base.proofs.repeated.Repeated.step_clauses.Goals as goal
 
 pub returns-clause-value : goal.returns-clause-value

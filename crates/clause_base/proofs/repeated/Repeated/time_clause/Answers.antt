@@ -1,4 +1,4 @@
-use Rattle.clause_base.proofs.RepeatLemmas.{time_stays_at, time_clause_is}
+use Rattle.clause_base.proofs.published.RepeatLemmas.{time_stays_at, time_clause_is}
 use Rattle.clause_base.proofs.repeated.Repeated.time_clause.Goals as goal
 
 pub moved-requires-clause-codes : goal.moved-requires-clause-codes

@@ -4,7 +4,7 @@ use Rattle.std.specs.Option.{option_map}
 use Rattle.std.proofs.lemmas.Option.{slice_get-map, slice_get_read}
 use Rattle.clause_base.specs.View.{shifted}
 use Rattle.clause_base.proofs.PieceLemmas.{drop_at}
-use Rattle.clause_base.proofs.ViewLemmas.{within}
+use Rattle.clause_base.proofs.published.ViewLemmas.{within}
 use Rattle.clause_base.proofs.view.View.get.Goals as goal
 
 -- the item of a renamed list

@@ -1,4 +1,4 @@
-use Rattle.clause_base.proofs.ViewLemmas.{rising_moved}
+use Rattle.clause_base.proofs.published.ViewLemmas.{rising_moved}
 use Rattle.clause_base.proofs.view.View.moved.Goals as goal
 
 pub invariant_of-result : goal.invariant_of-result

@@ -2,7 +2,7 @@ use Rattle.std.proofs.Common.{◌≡◌, ◌*◌, ℕ, Bool, true, false, sym, s
 use Rattle.std.specs.Bool.{OnFalse}
 use Rattle.std.specs.List.{AllByRecursion, filter, range_with_len}
 use Rattle.bit_sets.specs.Rows.{row_has}
-use Rattle.goal_choice.specs.Members.{Literals}
+use Rattle.goal_choice.specs.own.Members.{Literals}
 use Rattle.goal_choice.proofs.Sets.{is_absent}
 use Rattle.goal_choice.proofs.literals.Literals.contains.Goals as goal
 

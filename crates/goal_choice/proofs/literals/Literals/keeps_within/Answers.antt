@@ -1,7 +1,7 @@
 use Rattle.std.proofs.Common.{arith, ◌*◌, ◌/◌, ◌<◌, subst}
 use Rattle.std.specs.List.{AllByRecursion}
 use Rattle.bit_sets.specs.Rows.{row_has}
-use Rattle.goal_choice.specs.Members.{Literals}
+use Rattle.goal_choice.specs.own.Members.{Literals}
 use Rattle.goal_choice.proofs.Sets.{within_facts}
 use Rattle.goal_choice.proofs.literals.Literals.keeps_within.Goals as goal
 

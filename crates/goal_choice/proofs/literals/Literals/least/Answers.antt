@@ -1,6 +1,6 @@
 use Rattle.std.proofs.Common.{◌≡◌, ◌+◌, ◌*◌, ◌∷◌, ℕ, List, [], ap, subst}
 use Rattle.bit_sets.specs.Rows.{row_has}
-use Rattle.goal_choice.specs.Members.{Literals, members_from}
+use Rattle.goal_choice.specs.own.Members.{Literals, members_from}
 use Rattle.goal_choice.proofs.Sets.{next_one, no_next}
 use Rattle.goal_choice.proofs.literals.Literals.least.Goals as goal
 

@@ -1,7 +1,7 @@
 use Rattle.std.proofs.Common.{arith, ◌*◌, ℕ, List, ap, ◌∙◌}
 use Rattle.bit_sets.specs.Rows.{row_has}
-use Rattle.clause_base.specs.Clause.{put}
-use Rattle.goal_choice.specs.Members.{Literals}
+use Rattle.containers.specs.Rising.{put}
+use Rattle.goal_choice.specs.own.Members.{Literals}
 use Rattle.goal_choice.proofs.Sets.{put_in, same_set}
 use Rattle.goal_choice.proofs.literals.Literals.put.Goals as goal
 

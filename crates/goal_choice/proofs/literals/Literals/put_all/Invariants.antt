@@ -1,5 +1,5 @@
 use Rattle.std.proofs.Common.{◌≡◌, fold, drop}
-use Rattle.clause_base.specs.Clause.{put}
+use Rattle.containers.specs.Rising.{put}
 use Rattle.goal_choice.proofs.literals.Literals.put_all.Given as goal
 
 abbrev pub invariant-loop-lit : goal.invariant-loop-lit

@@ -1,6 +1,6 @@
 use Rattle.std.proofs.Common.{arith, ◌*◌, ap, ◌∙◌, sym}
 use Rattle.bit_sets.specs.Rows.{row_has}
-use Rattle.goal_choice.specs.Members.{Literals}
+use Rattle.goal_choice.specs.own.Members.{Literals}
 use Rattle.goal_choice.proofs.Sets.{taken, none_in}
 use Rattle.goal_choice.proofs.literals.Literals.take_least.Goals as goal
 

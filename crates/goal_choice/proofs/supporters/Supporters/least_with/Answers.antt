@@ -4,8 +4,8 @@ use Rattle.std.specs.List.{AllByRecursion}
 use Rattle.std.specs.Prelude.{slice_index_or}
 use Rattle.goal_choice.specs.declared.supporters.Blocks.{Blocks}
 use Rattle.goal_choice.specs.Means.{Supporter, variable_from}
-use Rattle.goal_choice.specs.Members.{IsWithin}
-use Rattle.goal_choice.specs.Needs.{supporter_in}
+use Rattle.goal_choice.specs.own.Members.{IsWithin}
+use Rattle.goal_choice.specs.own.Needs.{supporter_in}
 use Rattle.goal_choice.specs.Walk.{least_with}
 use Rattle.goal_choice.proofs.Found.{row, seen_row, of_variables, least_found, least_variable_is, found}
 use Rattle.goal_choice.proofs.supporters.Supporters.least_with.Goals as goal

@@ -1,9 +1,9 @@
 use Rattle.std.proofs.Common.{◌≡◌, ◌++◌, ◌+◌, ◌/◌, ◌∙◌, ℕ, List, map, length, sym, ap, subst}
 use Rattle.goal_choice.specs.declared.supporters.Blocks.{Blocks}
 use Rattle.goal_choice.specs.Means.{Means}
-use Rattle.goal_choice.specs.Members.{AreMeans}
-use Rattle.goal_choice.specs.Needs.{supporters_in}
-use Rattle.goal_choice.specs.Search.{AreMarked}
+use Rattle.goal_choice.specs.own.Members.{AreMeans}
+use Rattle.goal_choice.specs.own.Needs.{supporters_in}
+use Rattle.goal_choice.specs.own.Search.{AreMarked}
 use Rattle.goal_choice.proofs.NeedsLaw.{built, seen_as}
 use Rattle.goal_choice.proofs.supporters.Supporters.new.Goals as goal
 

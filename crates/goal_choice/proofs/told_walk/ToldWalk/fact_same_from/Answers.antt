@@ -2,10 +2,10 @@ use Rattle.std.proofs.Common.{arith, ◌≡◌, ◌+◌, ◌*◌, ◌∙◌, ℕ
 use Rattle.std.specs.Int.{from_bool}
 use Rattle.std.specs.List.{AllByRecursion}
 use Rattle.std.proofs.lemmas.List.{get_or_default}
-use Rattle.horizon_formula.specs.Layout.{Layout, fact_at}
-use Rattle.goal_choice.specs.Members.{Literals, no_literals}
-use Rattle.goal_choice.specs.Kept.{IsWalk, set_at}
-use Rattle.goal_choice.specs.Told.{ToldView, walk_of}
+use Rattle.formula_defs.specs.Layout.{Layout, fact_at}
+use Rattle.goal_choice.specs.own.Members.{Literals, no_literals}
+use Rattle.goal_choice.specs.own.Kept.{IsWalk, set_at}
+use Rattle.goal_choice.specs.own.Told.{ToldView, walk_of}
 use Rattle.goal_choice.proofs.Kept.{same_last, same_open, same_after, same_unwanted, same_low}
 use Rattle.goal_choice.proofs.told_walk.ToldWalk.fact_same_from.Goals as goal
 

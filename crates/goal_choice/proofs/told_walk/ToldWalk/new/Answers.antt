@@ -1,9 +1,9 @@
 use Rattle.std.proofs.Common.{arith, ◌/◌, ◌<◌, ◌∙◌, All, ap, sym, subst}
 use Rattle.std.proofs.lemmas.List.Elements.{All-nil}
 use Rattle.clause_base.specs.Told.{told_values}
-use Rattle.clause_base.proofs.ToldLemmas.{length-told_from}
-use Rattle.horizon_formula.specs.Layout.{Layout, variables}
-use Rattle.goal_choice.specs.Members.{Literals}
+use Rattle.clause_base.proofs.published.ToldLemmas.{length-told_from}
+use Rattle.formula_defs.specs.Layout.{Layout, variables}
+use Rattle.goal_choice.specs.own.Members.{Literals}
 use Rattle.goal_choice.proofs.Kept.{begun}
 use Rattle.goal_choice.proofs.told_walk.ToldWalk.new.Goals as goal
 

@@ -1,9 +1,9 @@
 use Rattle.std.proofs.Common.{arith, ◌+◌, ◌*◌, ◌∙◌, Some, sym, subst, ap}
-use Rattle.clause_base.proofs.ToldLemmas.{get-told}
-use Rattle.horizon_formula.specs.Layout.{Layout, width, variables}
+use Rattle.clause_base.proofs.published.ToldLemmas.{get-told}
+use Rattle.formula_defs.specs.Layout.{Layout, width, variables}
 use Rattle.goal_choice.specs.Means.{start_of}
-use Rattle.goal_choice.specs.Kept.{IsWalk}
-use Rattle.goal_choice.specs.Told.{ToldView, walk_of}
+use Rattle.goal_choice.specs.own.Kept.{IsWalk}
+use Rattle.goal_choice.specs.own.Told.{ToldView, walk_of}
 use Rattle.goal_choice.proofs.Kept.{step_chain, step_behind, step_below, step_false}
 use Rattle.goal_choice.proofs.told_walk.ToldWalk.same_from.Goals as goal
 

@@ -1,5 +1,5 @@
 use Rattle.std.proofs.Common.{arith, ◌≡◌, ◌≤◌, ◌<◌, ◌-◌, length, sym, subst}
-use Rattle.goal_choice.specs.Told.{ToldView}
+use Rattle.goal_choice.specs.own.Told.{ToldView}
 use Rattle.goal_choice.proofs.Told.{take_back_keeps}
 use Rattle.goal_choice.proofs.told_walk.ToldWalk.take_back.Goals as goal
 

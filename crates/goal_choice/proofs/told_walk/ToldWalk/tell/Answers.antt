@@ -1,6 +1,6 @@
 use Rattle.std.proofs.Common.{arith, ◌≤◌, ◌<◌, ◌/◌, sym, subst}
-use Rattle.horizon_formula.specs.Layout.{variables}
-use Rattle.goal_choice.specs.Told.{ToldView}
+use Rattle.formula_defs.specs.Layout.{variables}
+use Rattle.goal_choice.specs.own.Told.{ToldView}
 use Rattle.goal_choice.proofs.Told.{tell_keeps}
 use Rattle.goal_choice.proofs.told_walk.ToldWalk.tell.Goals as goal
 

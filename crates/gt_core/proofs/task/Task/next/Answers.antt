@@ -1,7 +1,7 @@
 use Rattle.std.proofs.Common.{arith, ◌∙◌}
 use Rattle.gt_core.specs.Literal.{state_of}
-use Rattle.gt_core.proofs.Within.{precondition_within, action_effects_within}
-use Rattle.gt_core.proofs.NextLaw.{next_after}
+use Rattle.gt_core.proofs.published.Within.{precondition_within, action_effects_within}
+use Rattle.gt_core.proofs.published.NextLaw.{next_after}
 use Rattle.gt_core.proofs.task.Task.next.Goals as goal
 
 pub all_hold-requires : goal.all_hold-requires

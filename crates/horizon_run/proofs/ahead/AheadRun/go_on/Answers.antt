@@ -1,6 +1,6 @@
 use Rattle.std.proofs.Common.{arith, ◌+◌, true≢false, sym, ap, ◌∙◌}
 use Rattle.horizon_run.specs.Run.{RunView}
-use Rattle.horizon_run.specs.Seen.{seen_of}
+use Rattle.horizon_run.specs.own.Seen.{seen_of}
 use Rattle.horizon_run.proofs.Grants.{goes_to, went, now-formula, now-means, now-granted, now-spoilt, seen-formula, seen-means, seen-granted, seen-spoilt}
 use Rattle.horizon_run.proofs.ahead.AheadRun.go_on.Goals as goal
 

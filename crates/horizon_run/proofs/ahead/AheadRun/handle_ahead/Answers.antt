@@ -1,5 +1,5 @@
 use Rattle.std.proofs.Common.{◌≡◌, false, sym, refl, ◌∙◌}
-use Rattle.horizon_run.specs.Seen.{seen_of}
+use Rattle.horizon_run.specs.own.Seen.{seen_of}
 use Rattle.horizon_run.proofs.Grants.{same-origin, stays_seen, sane_before, now-formula, now-means, now-granted, seen-formula, seen-means, seen-granted, seen-spoilt}
 use Rattle.horizon_run.proofs.ahead.AheadRun.handle_ahead.Goals as goal
 

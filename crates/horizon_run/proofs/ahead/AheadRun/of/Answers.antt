@@ -1,5 +1,5 @@
 use Rattle.std.proofs.Common.{ap, ◌∙◌}
-use Rattle.horizon_run.specs.Seen.{seen_of}
+use Rattle.horizon_run.specs.own.Seen.{seen_of}
 use Rattle.horizon_run.proofs.Grants.{seen-now}
 use Rattle.horizon_run.proofs.ahead.AheadRun.of.Goals as goal
 

@@ -2,7 +2,7 @@ use Rattle.std.proofs.Common.{arith, ◌≡◌, ◌+◌, false, sym, ap, ◌∙�
 use Rattle.clause_base.specs.Formula.{Cnf}
 use Rattle.goal_choice.specs.Means.{Means}
 use Rattle.goal_choice.specs.Choice.{choice_by}
-use Rattle.cdcl_rules.specs.Run.{after}
+use Rattle.cdcl_defs.specs.Run.{after}
 use Rattle.horizon_run.specs.Run.{RunView, choice_in, reached, IsRun, AddsUp}
 use Rattle.horizon_run.proofs.Runs.{goes_on, seen}
 use Rattle.horizon_run.proofs.run.HorizonRun.go_on.Goals as goal

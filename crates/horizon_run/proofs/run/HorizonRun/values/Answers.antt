@@ -1,7 +1,7 @@
 use Rattle.std.proofs.Common.{arith, ◌≡◌, ◌-◌, ◌+◌, ◌<◌, ◌++◌, ◌∷◌, [], List, Bool, sym, ap, ◌∙◌, subst, append_assoc}
 use Rattle.clause_base.specs.Formula.{Cnf, IsModel}
-use Rattle.cdcl_rules.specs.declared.standing.Standing.TheVariants.{Found}
-use Rattle.cdcl_rules.specs.Sound.{truths_from, made_true}
+use Rattle.cdcl_defs.specs.declared.standing.Standing.TheVariants.{Found}
+use Rattle.cdcl_defs.specs.Sound.{truths_from, made_true}
 use Rattle.horizon_run.specs.Run.{RunView, truths_of}
 use Rattle.horizon_run.proofs.Runs.{truths-push}
 use Rattle.horizon_run.proofs.run.HorizonRun.values.Goals as goal

@@ -1,5 +1,5 @@
 use Rattle.std.proofs.Common.{◌≡◌, ◌++◌, ◌-◌}
-use Rattle.cdcl_rules.specs.Sound.{truths_from}
+use Rattle.cdcl_defs.specs.Sound.{truths_from}
 use Rattle.horizon_run.specs.Run.{truths_of}
 use Rattle.horizon_run.proofs.run.HorizonRun.values.Given as goal
 

@@ -1,6 +1,6 @@
 use Rattle.std.proofs.Common.{ap, sym, subst, ◌∙◌}
 use Rattle.horizon_run.specs.Run.{RunView, choice_in, AddsUp}
-use Rattle.horizon_run.specs.Held.{run_in, IsOfLaws}
+use Rattle.horizon_run.specs.own.Held.{run_in, IsOfLaws}
 use Rattle.horizon_run.proofs.Begun.{on-any}
 use Rattle.horizon_run.proofs.started.Started.go_on.Goals as goal
 

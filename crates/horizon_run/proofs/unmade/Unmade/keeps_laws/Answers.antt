@@ -1,9 +1,9 @@
 use Rattle.std.proofs.Common.{refl, subst}
 use Rattle.goal_choice.specs.Choice.{choice_by}
-use Rattle.cdcl_rules.specs.Run.{start_of}
-use Rattle.cdcl_rules.specs.Sound.{IsSound}
+use Rattle.cdcl_defs.specs.Run.{start_of}
+use Rattle.cdcl_defs.specs.Sound.{IsSound}
 use Rattle.horizon_run.specs.Run.{IsNew}
-use Rattle.horizon_run.specs.Held.{IsOfLaws}
+use Rattle.horizon_run.specs.own.Held.{IsOfLaws}
 use Rattle.horizon_run.proofs.Runs.{means_open, adds_up, stays, is_reached}
 use Rattle.horizon_run.proofs.unmade.Unmade.keeps_laws.Goals as goal
 use Rattle.horizon_run.proofs.unmade.Unmade.keeps_laws.Goals.{After-runs_are_sound}

@@ -1,6 +1,6 @@
 use Rattle.std.proofs.Common.{◌≡◌, sym, ap, ◌∙◌}
 use Rattle.goal_choice.specs.Choice.{choice_by}
-use Rattle.cdcl_rules.specs.Run.{start_of, after}
+use Rattle.cdcl_defs.specs.Run.{start_of, after}
 use Rattle.horizon_run.specs.Run.{reached}
 use Rattle.horizon_run.proofs.Runs.{begins}
 use Rattle.horizon_run.proofs.unmade.Unmade.made.Goals as goal

@@ -1,6 +1,6 @@
 use Rattle.std.proofs.Common.{ap, sym, ◌∙◌}
 use Rattle.clause_base.specs.Formula.{Cnf}
-use Rattle.horizon_formula.specs.Layout.{variables}
+use Rattle.formula_defs.specs.Layout.{variables}
 use Rattle.goal_choice.specs.Means.{Means, means_of}
 use Rattle.goal_choice.specs.Choice.{choice_by}
 use Rattle.horizon_run.proofs.unmade.Unmade.sharing.Goals as goal

@@ -1,5 +1,5 @@
 use Rattle.std.proofs.Common.{arith}
-use Rattle.input_files.proofs.Taking.{ended_long}
+use Rattle.input_files.proofs.published.Taking.{ended_long}
 use Rattle.input_files.proofs.take.OptionBytesKept.take.Goals as goal
 
 pub returns-in-Err-Ends-TooLong-clause-kept : goal.returns-in-Err-Ends-TooLong-clause-kept

@@ -4,7 +4,7 @@ use Rattle.lrat_judge.specs.Judged.{Judged, IsRefutedBy}
 use Rattle.lrat_judge.specs.Verdicts.{verdict_of}
 use Rattle.lrat_judge.specs.Reached.{HasRead}
 use Rattle.lrat_judge.specs.declared.verdict.Verdict.TheVariants.{More}
-use Rattle.sat_text.proofs.Texts.{text_on}
+use Rattle.sat_text.proofs.published.Texts.{text_on}
 use Rattle.lrat_judge.proofs.Reading.{ended, decided, went_on, held_on}
 use Rattle.lrat_judge.proofs.judge.Judge.take.Goals as goal
 

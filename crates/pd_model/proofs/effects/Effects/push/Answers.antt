@@ -1,7 +1,7 @@
 use Rattle.std.proofs.Common.{◌≡◌, List, length, sym, subst, rules}
 use Rattle.pd_model.specs.declared.effects.Effect.{Effect}
 use Rattle.pd_model.specs.Sameness.{IsSame, AreSame, last_under, no_under, under_of}
-use Rattle.pd_model.proofs.Marks.{marked_next, marked_waiting}
+use Rattle.pd_model.proofs.published.Marks.{marked_next, marked_waiting}
 use Rattle.pd_model.proofs.effects.Effects.push.Goals as goal
 
 pub invariant_of-self-in_err-push-2 : goal.invariant_of-self-in_err-push-2

@@ -3,7 +3,7 @@ use Rattle.std.specs.Prelude.{Some, slice_get}
 use Rattle.pd_model.specs.declared.effects.Effect.{Effect}
 use Rattle.pd_model.specs.declared.sameness.Sameness.{Sameness}
 use Rattle.pd_model.specs.Sameness.{IsSame, last_under, no_under, under_of}
-use Rattle.pd_model.proofs.Marks.{marked_long, marked_at}
+use Rattle.pd_model.proofs.published.Marks.{marked_long, marked_at}
 use Rattle.pd_model.proofs.effects.Effects.sameness.Goals as goal
 
 pub index-requires : goal.index-requires

@@ -1,6 +1,6 @@
 use Rattle.std.proofs.Common.{◌∙◌, ap, sym}
 use Rattle.pd_model.specs.Fits.{is_call_of, all_fit}
-use Rattle.pd_model.proofs.Reading.{read_at, nothing_at}
+use Rattle.pd_model.proofs.published.Reading.{read_at, nothing_at}
 use Rattle.pd_model.proofs.pddl.Pddl.is_call.Goals as goal
 
 pub returns-in-Some : goal.returns-in-Some

@@ -1,4 +1,4 @@
-use Rattle.pd_model.proofs.States.{added}
+use Rattle.pd_model.proofs.published.States.{added}
 use Rattle.pd_model.proofs.state.State.add.Goals as goal
 
 pub returns : goal.returns

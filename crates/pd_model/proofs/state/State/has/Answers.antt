@@ -1,5 +1,5 @@
 use Rattle.std.proofs.Common.{◌∙◌}
-use Rattle.pd_model.proofs.Equality.{any_tied}
+use Rattle.pd_model.proofs.published.Equality.{any_tied}
 use Rattle.pd_model.proofs.state.State.has.Goals as goal
 
 pub returns : goal.returns

@@ -1,4 +1,4 @@
-use Rattle.pd_model.proofs.States.{removed}
+use Rattle.pd_model.proofs.published.States.{removed}
 use Rattle.pd_model.proofs.state.State.remove.Goals as goal
 
 pub returns : goal.returns

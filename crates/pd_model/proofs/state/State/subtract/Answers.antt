@@ -1,6 +1,6 @@
 use Rattle.std.proofs.Common.{rules, ◌≡◌, length}
 use Rattle.std.proofs.lemmas.List.{nil_from_length}
-use Rattle.pd_model.proofs.States.{leaves, none_left}
+use Rattle.pd_model.proofs.published.States.{leaves, none_left}
 use Rattle.pd_model.proofs.state.State.subtract.Goals as goal
 
 pub loop-atom-preserved : goal.loop-atom-preserved

@@ -1,6 +1,6 @@
 use Rattle.std.proofs.Common.{◌+◌}
 use Rattle.pd_model.specs.Types.{parents_of}
-use Rattle.pd_model.specs.Walk.{IsWalk, to_do}
+use Rattle.pd_model.specs.own.Walk.{IsWalk, to_do}
 use Rattle.pd_model.proofs.type_tree.TypeTree.of.Given as goal
 
 abbrev pub invariant-loop : goal.invariant-loop

@@ -1,7 +1,7 @@
 use Rattle.std.proofs.Common.{Ok, Result, arith, ap, sym, subst, ◌∙◌}
 use Rattle.pd_plan.specs.Fault.{Fault}
-use Rattle.pd_plan.specs.Progress as reading
-use Rattle.pd_plan.specs.Reader.{Steps, state_of, state_from, place_of}
+use Rattle.pd_plan.specs.own.Progress as reading
+use Rattle.pd_plan.specs.own.Reader.{Steps, state_of, state_from, place_of}
 use Rattle.pd_plan.proofs.Words.{then_token, then_none}
 use Rattle.pd_plan.proofs.reader.Reader.step.Goals as goal
 

@@ -1,5 +1,5 @@
 use Rattle.std.proofs.Common.{arith, ◌∙◌}
-use Rattle.pd_sexp.specs.Reader.{frame_of, outer_of}
+use Rattle.pd_sexp.specs.own.Reader.{frame_of, outer_of}
 use Rattle.pd_sexp.proofs.Words.{then_token, then_none}
 use Rattle.pd_sexp.proofs.reader.Reader.step.Goals as goal
 

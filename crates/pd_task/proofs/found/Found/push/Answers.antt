@@ -1,6 +1,6 @@
 use Rattle.std.proofs.Common.{sym, subst}
 use Rattle.pd_model.specs.Sameness.{Under, IsSame, last_under, no_under}
-use Rattle.pd_model.proofs.Marks.{same_under, same_pushed}
+use Rattle.pd_model.proofs.published.Marks.{same_under, same_pushed}
 use Rattle.pd_task.proofs.found.Found.push.Goals as goal
 
 pub push-requires : goal.push-requires

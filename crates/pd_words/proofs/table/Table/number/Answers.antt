@@ -1,4 +1,4 @@
-use Rattle.pd_words.proofs.NameLemmas.{number_below, number_among}
+use Rattle.pd_words.proofs.published.NameLemmas.{number_below, number_among}
 use Rattle.pd_words.proofs.table.Table.number.Goals as goal
 
 pub returns-clause-below : goal.returns-clause-below

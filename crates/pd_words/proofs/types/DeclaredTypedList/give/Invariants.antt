@@ -1,6 +1,6 @@
 use Rattle.std.proofs.Common.{◌≡◌, drop}
 use Rattle.pd_words.specs.Types.{give_parent}
-use Rattle.pd_words.specs.TypeList.{declared}
+use Rattle.pd_words.specs.own.TypeList.{declared}
 use Rattle.pd_words.proofs.types.DeclaredTypedList.give.Given as goal
 
 abbrev pub invariant-loop-word : goal.invariant-loop-word

@@ -1,8 +1,8 @@
 use Rattle.std.proofs.Common.{◌≡◌, false, sym, subst}
 use Rattle.race.specs.Input.{input_of}
 use Rattle.poll_batch.specs.declared.phase.Phase.{Phase}
-use Rattle.poll_batch.specs.Tied.{IsTied, is_given, numbers_at, runs_at}
-use Rattle.poll_batch.specs.OnePoll.{DoesOne}
+use Rattle.poll_batch.specs.own.Tied.{IsTied, is_given, numbers_at, runs_at}
+use Rattle.poll_batch.specs.own.OnePoll.{DoesOne}
 use Rattle.poll_batch.proofs.Standing.{standing}
 use Rattle.poll_batch.proofs.Falls.{falls_to}
 use Rattle.poll_batch.proofs.polled_race.PollRaceFuture.poll.Goals as goal

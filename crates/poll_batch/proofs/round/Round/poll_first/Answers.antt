@@ -3,8 +3,8 @@ use Rattle.std.proofs.lemmas.List.{length-append}
 use Rattle.horizon_run.specs.Run.{moved_to}
 use Rattle.race.specs.Input.{input_of}
 use Rattle.poll_batch.specs.declared.work.Work.{Work}
-use Rattle.poll_batch.specs.Tied.{numbers_of}
-use Rattle.poll_batch.specs.Works.{AreAtWork}
+use Rattle.poll_batch.specs.own.Tied.{numbers_of}
+use Rattle.poll_batch.specs.own.Works.{AreAtWork}
 use Rattle.poll_batch.proofs.Lists.{first-of, set-first}
 use Rattle.poll_batch.proofs.Polled.{done-first}
 use Rattle.poll_batch.proofs.OnePolled.{goes-on, is-done}

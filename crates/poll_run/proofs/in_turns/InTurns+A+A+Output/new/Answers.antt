@@ -2,7 +2,7 @@ use Rattle.std.proofs.Common.{arith, ◌≡◌, [], ◌++◌, append-nil, map, l
 use Rattle.std.specs.List.{AllByRecursion, AllZip}
 use Rattle.futures.specs.Joined.{IsLive, MayGive}
 use Rattle.futures.specs.declared.future.made.maybe_done.MaybeDone.TheVariants.{Future}
-use Rattle.poll_run.proofs.Slots.{live-fresh, gives-fresh, length-mapped, nil}
+use Rattle.poll_run.proofs.published.Slots.{live-fresh, gives-fresh, length-mapped, nil}
 use Rattle.poll_run.proofs.in_turns.InTurns+A+A+Output.new.Goals as goal
 
 pub returns-clause-live : goal.returns-clause-live

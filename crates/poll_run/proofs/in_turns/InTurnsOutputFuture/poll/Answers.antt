@@ -1,7 +1,7 @@
 use Rattle.std.proofs.Common.{sym, ap, ◌∙◌, subst}
 use Rattle.std.specs.List.{AllByRecursion, AllZip}
 use Rattle.futures.specs.Joined.{MayGive, IsDone}
-use Rattle.poll_run.proofs.Slots.{gives-done, if-ok}
+use Rattle.poll_run.proofs.published.Slots.{gives-done, if-ok}
 use Rattle.poll_run.proofs.Falls.{fewer, at_each}
 use Rattle.poll_run.proofs.in_turns.InTurnsOutputFuture.poll.Goals as goal
 

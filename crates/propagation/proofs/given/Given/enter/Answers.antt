@@ -1,10 +1,10 @@
 use Rattle.std.proofs.Common.{arith, ◌≡◌, ◌∙◌, List, ℕ, true, replicate, length, sym, ap, subst}
 use Rattle.clause_base.specs.Clause.{IsClause}
-use Rattle.cdcl_rules.specs.State.{clause_at}
-use Rattle.propagation.specs.Added.{RestsWith}
-use Rattle.propagation.specs.Asks.{IsAsk}
-use Rattle.propagation.specs.Given.{AreGiven}
-use Rattle.propagation.specs.Visit.{slot_clauses}
+use Rattle.cdcl_defs.specs.State.{clause_at}
+use Rattle.propagation.specs.own.Added.{RestsWith}
+use Rattle.propagation.specs.own.Asks.{IsAsk}
+use Rattle.propagation.specs.own.Given.{AreGiven}
+use Rattle.propagation.specs.own.Visit.{slot_clauses}
 use Rattle.propagation.proofs.Asks.{fit_read}
 use Rattle.propagation.proofs.Enters.{pair_loose}
 use Rattle.propagation.proofs.Filters.{clause_is}

@@ -1,6 +1,6 @@
 use Rattle.std.proofs.Common.{arith, ◌≡◌, ◌+◌, ◌<◌, ℕ, length, get_or, subst}
 use Rattle.std.proofs.lemmas.Grind.{get_or_default_zero}
-use Rattle.propagation.specs.Given.{AreGiven}
+use Rattle.propagation.specs.own.Given.{AreGiven}
 use Rattle.propagation.proofs.Givens.{given_passed, ahead_of, past_next}
 use Rattle.propagation.proofs.given.Given.enter_part.Goals as goal
 use Rattle.propagation.proofs.given.Given.enter_part.Goals.{After-index-place}

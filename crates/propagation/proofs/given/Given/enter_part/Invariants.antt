@@ -1,5 +1,5 @@
 use Rattle.std.proofs.Common.{◌+◌, ◌<◌, ◌≤◌, ℕ, length, get_or}
-use Rattle.propagation.specs.Given.{AreGiven}
+use Rattle.propagation.specs.own.Given.{AreGiven}
 use Rattle.propagation.proofs.given.Given.enter_part.Given as goal
 
 abbrev pub invariant-loop-index : goal.invariant-loop-index

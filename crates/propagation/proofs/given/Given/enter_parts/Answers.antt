@@ -1,5 +1,5 @@
 use Rattle.std.proofs.Common.{arith, ◌≡◌, ◌+◌, ◌*◌, ◌∙◌, ℕ, length, ap}
-use Rattle.cdcl_rules.specs.State.{clause_at}
+use Rattle.cdcl_defs.specs.State.{clause_at}
 use Rattle.propagation.proofs.Templates.{part_end}
 use Rattle.propagation.proofs.given.Given.enter_parts.Goals as goal
 

@@ -1,5 +1,5 @@
 use Rattle.std.proofs.Common.{◌≡◌, ◌+◌, ◌*◌}
-use Rattle.propagation.specs.Given.{AreGiven}
+use Rattle.propagation.specs.own.Given.{AreGiven}
 use Rattle.propagation.proofs.given.Given.enter_parts.Given as goal
 
 abbrev pub invariant-loop : goal.invariant-loop

@@ -1,6 +1,6 @@
 use Rattle.std.proofs.Common.{arith, ◌≡◌, ◌≤◌, ◌+◌, ◌*◌, ◌∙◌, ℕ, List, length, ap, refl, sym, subst}
-use Rattle.cdcl_rules.specs.State.{clause_at}
-use Rattle.propagation.specs.Given.{AreGiven}
+use Rattle.cdcl_defs.specs.State.{clause_at}
+use Rattle.propagation.specs.own.Given.{AreGiven}
 use Rattle.propagation.proofs.Givens.{given_none}
 use Rattle.propagation.proofs.Templates.{whole_long, told_two, steps_two, times_two, after_two, twos_of, after_parts}
 use Rattle.propagation.proofs.given.Given.renewed.Goals as goal

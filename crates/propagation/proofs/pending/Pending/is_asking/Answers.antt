@@ -1,7 +1,7 @@
 use Rattle.std.proofs.Common.{arith, sym, ◌∙◌}
 use Rattle.std.proofs.lemmas.List.{get_or_read}
 use Rattle.propagation.proofs.Asks.{clash}
-use Rattle.propagation.proofs.Assigns.{equal_of}
+use Rattle.propagation.proofs.published.Assigns.{equal_of}
 use Rattle.propagation.proofs.pending.Pending.is_asking.Goals as goal
 
 pub index-requires : goal.index-requires

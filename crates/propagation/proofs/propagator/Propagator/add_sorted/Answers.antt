@@ -1,15 +1,15 @@
 use Rattle.std.proofs.Common.{arith, get_or, false, ◌≡◌, ◌*◌, ◌<◌, ◌≤◌, ℕ, List, ◌∙◌, ap, length, sym, subst, refl}
 use Rattle.std.proofs.lemmas.Bool.{false≢true}
 use Rattle.clause_base.specs.Clause.{HasVariablesBelow, has_literal}
-use Rattle.cdcl_trail.specs.Assignment.{AssignmentView, literals}
-use Rattle.propagation.specs.Added.{IsTaken, IsQuietBelow, IsRaised}
-use Rattle.propagation.specs.Asks.{IsAsk}
+use Rattle.cdcl_tables.specs.Assignment.{AssignmentView, literals}
+use Rattle.propagation.specs.own.Added.{IsTaken, IsQuietBelow, IsRaised}
+use Rattle.propagation.specs.own.Asks.{IsAsk}
 use Rattle.propagation.specs.declared.pending.Pending.{Pending}
 use Rattle.propagation.specs.declared.tables.Tables.{Tables}
-use Rattle.propagation.specs.Tables.{clauses_in, flags_in}
+use Rattle.propagation.specs.own.Tables.{clauses_in, flags_in}
 use Rattle.propagation.specs.Pending.{PropagatorView}
-use Rattle.propagation.specs.Pairs.{IsPaired}
-use Rattle.propagation.specs.Sound.{AreSound}
+use Rattle.propagation.specs.own.Pairs.{IsPaired}
+use Rattle.propagation.specs.own.Sound.{AreSound}
 use Rattle.propagation.proofs.Enters.{pair_loose, below_by, short_by}
 use Rattle.propagation.proofs.Paired.{paired_add}
 use Rattle.propagation.proofs.Slotted.{slots_long}

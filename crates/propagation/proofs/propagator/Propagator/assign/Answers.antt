@@ -3,22 +3,22 @@ use Rattle.clause_base.specs.Literal.{opposite}
 use Rattle.clause_base.specs.Clause.{has_literal}
 use Rattle.bit_sets.specs.Layered.{words_have}
 use Rattle.std.proofs.lemmas.List.{map_push, length-map}
-use Rattle.cdcl_rules.specs.declared.trail.Assigned.{Assigned}
-use Rattle.cdcl_rules.specs.State.{value_of}
-use Rattle.cdcl_trail.specs.Assignment.{AssignmentView, literals}
-use Rattle.cdcl_trail.specs.Mirrored.{TrailView}
-use Rattle.cdcl_trail.proofs.Assignments.{has_is}
-use Rattle.cdcl_trail.proofs.Mirrors.{off_of_none, half_opposite}
+use Rattle.cdcl_defs.specs.declared.trail.Assigned.{Assigned}
+use Rattle.cdcl_defs.specs.State.{value_of}
+use Rattle.cdcl_tables.specs.Assignment.{AssignmentView, literals}
+use Rattle.cdcl_tables.specs.Mirrored.{TrailView}
+use Rattle.cdcl_tables.proofs.published.Assignments.{has_is}
+use Rattle.cdcl_tables.proofs.published.Mirrors.{off_of_none, half_opposite}
 use Rattle.clause_base.specs.Pairs.{pairs_of, pair_in}
-use Rattle.propagation.specs.Asks.{IsConsistent, HasAsks}
+use Rattle.propagation.specs.own.Asks.{IsConsistent, HasAsks}
 use Rattle.propagation.specs.Front.{IsComplete}
 use Rattle.propagation.specs.Pending.{PropagatorView}
-use Rattle.propagation.specs.Sound.{AreSound}
-use Rattle.propagation.specs.Tables.{AreTables, clauses_in, flags_in, pending_in}
-use Rattle.propagation.specs.Visit.{slot_set, IsAtRest, IsFit, AreSettled, MovesToFree}
+use Rattle.propagation.specs.own.Sound.{AreSound}
+use Rattle.propagation.specs.own.Tables.{AreTables, clauses_in, flags_in, pending_in}
+use Rattle.propagation.specs.own.Visit.{slot_set, IsAtRest, IsFit, AreSettled, MovesToFree}
 use Rattle.propagation.proofs.Asks.{consistent_push, last_true}
 use Rattle.propagation.proofs.AsksKept.{asks_longer, asks_without}
-use Rattle.propagation.proofs.Assigns.{opposite_twice, assign_complete, assign_free, assign_quiets, whole_free}
+use Rattle.propagation.proofs.published.Assigns.{opposite_twice, assign_complete, assign_free, assign_quiets, whole_free}
 use Rattle.propagation.proofs.Founds.{found_complete}
 use Rattle.propagation.proofs.Gone.{or_gone, gone_more, gone_grows, settled_more, not_gone}
 use Rattle.propagation.proofs.Visits.{two_watched}

@@ -1,16 +1,16 @@
 use Rattle.std.proofs.Common.{arith, subst, ◌≡◌, ◌<◌, ◌*◌, ℕ, List, ◌∙◌, ap, false, get_or, length, take, sym}
 use Rattle.std.proofs.lemmas.List.{take_all, length-take-le, length-map}
 use Rattle.clause_base.specs.Clause.{has_literal}
-use Rattle.cdcl_rules.specs.declared.trail.Assigned.{Assigned}
-use Rattle.cdcl_rules.specs.Pending.{is_pending_in}
-use Rattle.cdcl_trail.specs.Assignment.{AssignmentView, literals}
-use Rattle.cdcl_trail.specs.Mirrored.{TrailView}
-use Rattle.propagation.specs.Asks.{HasAsks}
-use Rattle.propagation.specs.Back.{taken_back}
+use Rattle.cdcl_defs.specs.declared.trail.Assigned.{Assigned}
+use Rattle.cdcl_defs.specs.Pending.{is_pending_in}
+use Rattle.cdcl_tables.specs.Assignment.{AssignmentView, literals}
+use Rattle.cdcl_tables.specs.Mirrored.{TrailView}
+use Rattle.propagation.specs.own.Asks.{HasAsks}
+use Rattle.propagation.specs.own.Back.{taken_back}
 use Rattle.propagation.specs.Front.{IsComplete}
 use Rattle.propagation.specs.Pending.{PropagatorView}
-use Rattle.propagation.specs.Sound.{AreSound}
-use Rattle.propagation.specs.Tables.{AreTables, pending_in}
+use Rattle.propagation.specs.own.Sound.{AreSound}
+use Rattle.propagation.specs.own.Tables.{AreTables, pending_in}
 use Rattle.propagation.proofs.Undoes.{undo_sound, short_of, taken_le}
 use Rattle.propagation.proofs.propagator.Propagator.go_back.Goals as goal
 use Rattle.propagation.proofs.propagator.Propagator.go_back.Goals.{After-assignment-assignment}

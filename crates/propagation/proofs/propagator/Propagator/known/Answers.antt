@@ -1,9 +1,9 @@
 use Rattle.std.proofs.Common.{arith, ◌∙◌, ap, length}
 use Rattle.clause_base.specs.Clause.{has_literal}
-use Rattle.cdcl_rules.specs.Pending.{is_pending_in}
-use Rattle.cdcl_trail.specs.Assignment.{AssignmentView, literals}
+use Rattle.cdcl_defs.specs.Pending.{is_pending_in}
+use Rattle.cdcl_tables.specs.Assignment.{AssignmentView, literals}
 use Rattle.propagation.specs.Pending.{PropagatorView}
-use Rattle.propagation.specs.Tables.{pending_in}
+use Rattle.propagation.specs.own.Tables.{pending_in}
 use Rattle.propagation.proofs.Undoes.{read_as, sound_stay}
 use Rattle.propagation.proofs.propagator.Propagator.known.Goals as goal
 

@@ -1,11 +1,11 @@
 use Rattle.std.proofs.Common.{arith, ◌≡◌, ◌*◌, ◌∙◌, [], ◌∷◌, ℕ, List, true, sym, ap, subst, MatchOption}
 use Rattle.clause_base.specs.Clause.{has_literal}
-use Rattle.cdcl_rules.specs.Pending.{is_pending, is_pending_in, open_ones}
-use Rattle.cdcl_rules.specs.State.{clause_at}
-use Rattle.cdcl_trail.specs.Assignment.{AssignmentView, literals}
+use Rattle.cdcl_defs.specs.Pending.{is_pending, is_pending_in, open_ones}
+use Rattle.cdcl_defs.specs.State.{clause_at}
+use Rattle.cdcl_tables.specs.Assignment.{AssignmentView, literals}
 use Rattle.propagation.specs.Pending.{PropagatorView}
-use Rattle.propagation.specs.Status.{IsStatus}
-use Rattle.propagation.proofs.Adds.{kept_in}
+use Rattle.propagation.specs.own.Status.{IsStatus}
+use Rattle.propagation.proofs.published.Adds.{kept_in}
 use Rattle.propagation.proofs.Asks.{fit_read, pending_kept}
 use Rattle.propagation.proofs.Filters.{clause_is}
 use Rattle.propagation.proofs.propagator.Propagator.left.Goals as goal

@@ -1,9 +1,9 @@
 use Rattle.std.proofs.Common.{◌∙◌, ap, ℕ, List, subst, sym}
 use Rattle.clause_base.specs.Clause.{has_literal}
-use Rattle.cdcl_trail.specs.Assignment.{AssignmentView, literals}
+use Rattle.cdcl_tables.specs.Assignment.{AssignmentView, literals}
 use Rattle.propagation.specs.Front.{first_asked, IsComplete}
 use Rattle.propagation.specs.Pending.{PropagatorView}
-use Rattle.propagation.specs.Tables.{pending_in}
+use Rattle.propagation.specs.own.Tables.{pending_in}
 use Rattle.propagation.proofs.Undoes.{read_as, sound_stay}
 use Rattle.propagation.proofs.propagator.Propagator.next.Goals as goal
 

@@ -1,10 +1,10 @@
 use Rattle.std.proofs.Common.{arith, ◌≡◌, ◌*◌, ◌≤◌, ◌+◌, ◌∙◌, ℕ, List, true, length, replicate, ap, sym, subst, refl}
-use Rattle.cdcl_trail.specs.Assignment.{literals}
-use Rattle.cdcl_trail.specs.Mirrored.{TrailView}
-use Rattle.clause_store.specs.Pairs.{IsIndex}
+use Rattle.cdcl_tables.specs.Assignment.{literals}
+use Rattle.cdcl_tables.specs.Mirrored.{TrailView}
+use Rattle.cdcl_tables.specs.Pairs.{IsIndex}
 use Rattle.propagation.specs.declared.tables.Tables.{Tables}
-use Rattle.propagation.specs.Given.{AreGiven}
-use Rattle.propagation.specs.Steps.{AreStepped}
+use Rattle.propagation.specs.own.Given.{AreGiven}
+use Rattle.propagation.specs.own.Steps.{AreStepped}
 use Rattle.propagation.proofs.Givens.{fit_store, sound_given, paired_given}
 use Rattle.propagation.proofs.propagator.Propagator.over.Goals as goal
 

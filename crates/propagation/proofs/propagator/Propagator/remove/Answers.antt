@@ -1,6 +1,6 @@
 use Rattle.std.proofs.Common.{refl}
-use Rattle.cdcl_trail.specs.Assignment.{literals}
-use Rattle.propagation.proofs.Removes.{removed_sound}
+use Rattle.cdcl_tables.specs.Assignment.{literals}
+use Rattle.propagation.proofs.published.Removes.{removed_sound}
 use Rattle.propagation.proofs.propagator.Propagator.remove.Goals as goal
 
 pub invariant_of-self : goal.invariant_of-self

@@ -1,6 +1,6 @@
 use Rattle.std.proofs.Common.{◌≡◌, ℕ, List, ap, ◌∙◌}
-use Rattle.cdcl_rules.specs.declared.trail.Assigned.{Assigned}
-use Rattle.cdcl_trail.specs.Mirrored.{TrailView}
+use Rattle.cdcl_defs.specs.declared.trail.Assigned.{Assigned}
+use Rattle.cdcl_tables.specs.Mirrored.{TrailView}
 use Rattle.propagation.specs.Pending.{PropagatorView}
 use Rattle.propagation.proofs.propagator.Propagator.trail.Goals as goal
 

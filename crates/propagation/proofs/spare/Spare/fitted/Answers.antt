@@ -1,5 +1,5 @@
 use Rattle.std.proofs.Common.{◌*◌, ◌∙◌, ℕ, true, length, replicate, ap, subst}
-use Rattle.propagation.specs.Given.{AreGiven}
+use Rattle.propagation.specs.own.Given.{AreGiven}
 use Rattle.propagation.proofs.Givens.{fit_store}
 use Rattle.propagation.proofs.spare.Spare.fitted.Goals as goal
 

@@ -2,14 +2,14 @@ use Rattle.std.proofs.Common.{arith, ◌≡◌, ◌<◌, ◌/◌, ◌*◌, ℕ, 
 use Rattle.std.proofs.lemmas.List.{get_or_read}
 use Rattle.clause_base.specs.Literal.{opposite}
 use Rattle.clause_base.specs.Clause.{IsClause, has_literal}
-use Rattle.cdcl_trail.proofs.Mirrors.{half_opposite}
+use Rattle.cdcl_tables.proofs.published.Mirrors.{half_opposite}
 use Rattle.bit_sets.specs.Layered.{words_have}
-use Rattle.clause_store.specs.Linked.{blocking_of}
+use Rattle.cdcl_tables.specs.Linked.{blocking_of}
 use Rattle.propagation.specs.Pending.{AreFalseBut, is_free}
-use Rattle.propagation.specs.Asks.{IsUnit, IsAsk}
-use Rattle.cdcl_rules.specs.State.{clause_at}
-use Rattle.propagation.specs.Tables.{clauses_in}
-use Rattle.propagation.specs.Visit.{slot_flags, slot_set, IsFit, IsReal}
+use Rattle.propagation.specs.own.Asks.{IsUnit, IsAsk}
+use Rattle.cdcl_defs.specs.State.{clause_at}
+use Rattle.propagation.specs.own.Tables.{clauses_in}
+use Rattle.propagation.specs.own.Visit.{slot_flags, slot_set, IsFit, IsReal}
 use Rattle.propagation.proofs.Filters.{has_get, settled_one, settled_true}
 use Rattle.propagation.proofs.Visits.{has_below, visited_stay, visited_drop, visited_move, moves_own, unit_beside, grows_insert, own_insert}
 use Rattle.propagation.proofs.Slotted.{fit_slots, slots_long, slot_at, insert_at}

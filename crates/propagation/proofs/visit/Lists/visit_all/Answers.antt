@@ -1,6 +1,6 @@
 use Rattle.std.proofs.Common.{arith, inl, refl}
 use Rattle.clause_base.specs.Clause.{has_literal}
-use Rattle.propagation.specs.Tables.{clauses_in}
+use Rattle.propagation.specs.own.Tables.{clauses_in}
 use Rattle.propagation.proofs.Visits.{moves_on, all_settled, visited_node, visited_end}
 use Rattle.propagation.proofs.visit.Lists.visit_all.Goals as goal
 

@@ -1,10 +1,10 @@
 use Rattle.std.proofs.Common.{List, ℕ, ◌*◌}
 use Rattle.clause_base.specs.Clause.{has_literal}
 use Rattle.bit_sets.specs.Layered.{words_have}
-use Rattle.clause_store.specs.Walk.{left_from}
-use Rattle.propagation.specs.Asks.{HasAsks}
-use Rattle.propagation.specs.Tables.{clauses_in}
-use Rattle.propagation.specs.Visit.{AreVisited, MovesToFree, Grows}
+use Rattle.cdcl_tables.specs.Walk.{left_from}
+use Rattle.propagation.specs.own.Asks.{HasAsks}
+use Rattle.propagation.specs.own.Tables.{clauses_in}
+use Rattle.propagation.specs.own.Visit.{AreVisited, MovesToFree, Grows}
 use Rattle.propagation.proofs.visit.Lists.visit_all.Given as goal
 
 abbrev pub invariant-visits : goal.invariant-visits

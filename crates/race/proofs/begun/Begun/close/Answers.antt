@@ -1,9 +1,9 @@
 use Rattle.std.proofs.Common.{arith, Vec, Global, ◌≤◌, length, ℕ, List, ◌∙◌, sym, ap, refl, subst}
 use Rattle.horizon_rates.specs.Ledger.{Account, left_of}
 use Rattle.horizon_run.specs.Run.{RunView}
-use Rattle.race_end.specs.declared.line.Line.{Line}
+use Rattle.race_outcome.specs.declared.line.Line.{Line}
 use Rattle.race.specs.Runs.{moved_all, conflicts_of, IsBooked}
-use Rattle.race.proofs.Advances.{tied-advanced, length-moved}
+use Rattle.race.proofs.published.Advances.{tied-advanced, length-moved}
 use Rattle.race.proofs.Booked.{booked}
 use Rattle.race.proofs.begun.Begun.close.Goals as goal
 

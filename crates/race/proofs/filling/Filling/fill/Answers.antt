@@ -1,9 +1,9 @@
 use Rattle.std.proofs.Common.{◌≡◌, ◌∙◌, sym, ap, None}
-use Rattle.race.specs.Filling.{racing_of}
+use Rattle.race.specs.own.Filling.{racing_of}
 use Rattle.race.specs.Starts.{filled}
 use Rattle.race.specs.Tied.{race_state}
-use Rattle.race.proofs.Starts.{fill-on, fill-off}
-use Rattle.race.proofs.Advances.{length-runners}
+use Rattle.race.proofs.published.Starts.{fill-on, fill-off}
+use Rattle.race.proofs.published.Advances.{length-runners}
 use Rattle.race.proofs.filling.Filling.fill.Goals as goal
 
 pub loop-horizon-preserved : goal.loop-horizon-preserved

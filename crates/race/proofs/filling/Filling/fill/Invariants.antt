@@ -1,5 +1,5 @@
 use Rattle.std.proofs.Common.{◌≡◌, ◌-◌, length}
-use Rattle.race.specs.Filling.{racing_of}
+use Rattle.race.specs.own.Filling.{racing_of}
 use Rattle.race.specs.Runs.{AreLow}
 use Rattle.race.specs.Starts.{filled}
 use Rattle.race.specs.Tied.{race_state, IsTied, KeepsBooks}

@@ -3,7 +3,7 @@ use Rattle.horizon_rates.specs.declared.rates.Rates.{Rates}
 use Rattle.horizon_rates.specs.Ledger.{left_of}
 use Rattle.race.specs.Grants.{grants}
 use Rattle.race.specs.Runs.{Fits}
-use Rattle.race.proofs.Advances.{fits-grants, length-horizons, sound-runs}
+use Rattle.race.proofs.published.Advances.{fits-grants, length-horizons, sound-runs}
 use Rattle.race.proofs.filling.Filling.grant.Given.{Over}
 use Rattle.race.proofs.filling.Filling.grant.Goals.{In_ok-grants}
 use Rattle.race.proofs.filling.Filling.grant.Goals as goal

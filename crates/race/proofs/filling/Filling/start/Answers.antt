@@ -4,9 +4,9 @@ use Rattle.clause_base.specs.Formula.{Cnf}
 use Rattle.step_encoding.specs.Limits.{planner_literals}
 use Rattle.step_encoding.specs.Numbers.{literals_of}
 use Rattle.horizon_run.specs.Run.{RunView, choice_in}
-use Rattle.race.specs.Filling.{racing_of}
+use Rattle.race.specs.own.Filling.{racing_of}
 use Rattle.race.specs.Runs.{IsRunOf}
-use Rattle.race.proofs.Starts.{IsStart, taken, is_run, new_low, tied-start, low-start, race-start}
+use Rattle.race.proofs.published.Starts.{IsStart, taken, is_run, new_low, tied-start, low-start, race-start}
 use Rattle.race.proofs.filling.Filling.start.Given.{Over}
 use Rattle.race.proofs.filling.Filling.start.Goals.{In_ok-push}
 use Rattle.race.proofs.filling.Filling.start.Goals as goal

@@ -1,7 +1,7 @@
 use Rattle.std.proofs.Common.{◌≡◌, ◌∷◌, [], length, sym, ap, ◌∙◌, rules}
 use Rattle.std.proofs.lemmas.List.{nil_from_length}
 use Rattle.race.specs.Tied.{race_state}
-use Rattle.race_end.specs.Ends.{conflicts_in, line_view}
+use Rattle.race_outcome.specs.Ends.{conflicts_in, line_view}
 use Rattle.race.proofs.Finds.{line-next, lines-next, lines-end, told-lines}
 use Rattle.std.proofs.Common.{map}
 use Rattle.race.proofs.racing.Racing.finish.Goals as goal

@@ -4,7 +4,7 @@ use Rattle.race.specs.Found.{lines, open_line}
 use Rattle.race.specs.Lines.{AreLines}
 use Rattle.race.specs.Runs.{live_run_of, IsRunOf}
 use Rattle.race.specs.Tied.{race_state}
-use Rattle.race_end.specs.Ends.{line_view}
+use Rattle.race_outcome.specs.Ends.{line_view}
 use Rattle.race.proofs.racing.Racing.finish.Given as goal
 
 abbrev pub ghost-open : goal.ghost-open

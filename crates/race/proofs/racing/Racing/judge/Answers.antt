@@ -4,7 +4,7 @@ use Rattle.race.specs.Found.{first_found}
 use Rattle.race.specs.Race.{Stage, settled}
 use Rattle.race.specs.Runs.{live_run_of}
 use Rattle.race.specs.Tied.{race_state, Stands, HasEnded}
-use Rattle.race.proofs.Ends.{judged-none}
+use Rattle.race.proofs.published.Ends.{judged-none}
 use Rattle.race.proofs.racing.Racing.judge.Goals as goal
 
 pub returns : goal.returns

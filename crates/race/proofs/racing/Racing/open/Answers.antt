@@ -2,17 +2,17 @@ use Rattle.std.proofs.Common.{arith, ◌≡◌, ◌+◌, ◌∙◌, ℕ, sym, ap
 use Rattle.clause_base.specs.Formula.{Cnf}
 use Rattle.horizon_rates.specs.Ledger.{Account}
 use Rattle.step_encoding.specs.Numbers.{literals_of}
-use Rattle.race_end.specs.Ends.{line_view}
+use Rattle.race_outcome.specs.Ends.{line_view}
 use Rattle.race.specs.Grants.{advanced}
 use Rattle.race.specs.Race.{TooLarge, judged, after_rounds}
-use Rattle.race.specs.Filling.{racing_of}
+use Rattle.race.specs.own.Filling.{racing_of}
 use Rattle.race.specs.Runs.{AreLow}
 use Rattle.race.specs.Starts.{too_large, filled}
 use Rattle.race.specs.Tied.{race_state}
-use Rattle.race.proofs.Advances.{used-same}
+use Rattle.race.proofs.published.Advances.{used-same}
 use Rattle.race.proofs.Fills.{same-state, same-tied, same-books}
-use Rattle.race.proofs.Starts.{large}
-use Rattle.race.proofs.Ends.{round-too_large, round-on}
+use Rattle.race.proofs.published.Starts.{large}
+use Rattle.race.proofs.published.Ends.{round-too_large, round-on}
 use Rattle.race.proofs.Rounds.{after-next, ends-by}
 use Rattle.race.proofs.racing.Racing.open.Goals as goal
 

@@ -4,7 +4,7 @@ use Rattle.clause_base.specs.Formula.{Cnf, IsModel}
 use Rattle.horizon_run.specs.Run.{truths_of}
 use Rattle.race.specs.Runs.{IsRunOf, live_run_of}
 use Rattle.race.specs.Tied.{IsTied, race_state}
-use Rattle.race.proofs.Ends.{judged-plan, get-runner, all-at, same-plan}
+use Rattle.race.proofs.published.Ends.{judged-plan, get-runner, all-at, same-plan}
 use Rattle.race.proofs.racing.Racing.plan.Goals as goal
 
 pub returns : goal.returns

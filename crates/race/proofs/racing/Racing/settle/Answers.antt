@@ -4,8 +4,8 @@ use Rattle.race.specs.Found.{lines}
 use Rattle.race.specs.State.{spent}
 use Rattle.race.specs.Race.{Ended}
 use Rattle.race.specs.Tied.{IsTied, race_state}
-use Rattle.race_end.specs.Ends.{LineView, Exhausted, Unfinished}
-use Rattle.race.proofs.Ends.{ended, unended, settled-exhausted, settled-unfinished, settled-on}
+use Rattle.race_outcome.specs.Ends.{LineView, Exhausted, Unfinished}
+use Rattle.race.proofs.published.Ends.{ended, unended, settled-exhausted, settled-unfinished, settled-on}
 use Rattle.race.proofs.racing.Racing.settle.Goals as goal
 
 pub returns-then-ended : goal.returns-then-ended

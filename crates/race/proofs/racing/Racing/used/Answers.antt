@@ -1,5 +1,5 @@
 use Rattle.std.proofs.Common.{arith, ◌∙◌, ap, length}
-use Rattle.race.proofs.Advances.{length-horizons}
+use Rattle.race.proofs.published.Advances.{length-horizons}
 use Rattle.race.proofs.racing.Racing.used.Goals as goal
 
 pub conflicts_of-requires : goal.conflicts_of-requires

@@ -1,5 +1,5 @@
 use Rattle.std.proofs.Common.{arith, ◌∙◌, ◌∷◌, [], ◌++◌, length, ap, List, ℕ, Option, None}
-use Rattle.rup_check.specs.Page.{clauses_at}
+use Rattle.rup_check.specs.own.Page.{clauses_at}
 use Rattle.rup_check.proofs.PageLaws.{long_view, page_gone, clauses_gone}
 use Rattle.rup_check.proofs.page.Page.push_gone.Goals as goal
 

@@ -1,5 +1,5 @@
 use Rattle.std.proofs.Common.{◌∙◌, ◌∷◌, [], ◌++◌, List, ℕ, Option, Some, Ok, ap}
-use Rattle.rup_check.specs.Pages.{joined}
+use Rattle.rup_check.specs.own.Pages.{joined}
 use Rattle.rup_check.proofs.PagesLaws.{page_more_by, false_ok}
 use Rattle.rup_check.proofs.pages.Pages.push.Goals as goal
 

@@ -1,6 +1,6 @@
 use Rattle.std.proofs.Common.{arith, rules, ◌≡◌, ◌∙◌, ◌<◌, ◌/◌, [], List, ℕ, Option, None, length, vec_len, set, ap}
 use Rattle.std.proofs.lemmas.List.{get_or_read}
-use Rattle.rup_check.specs.Pages.{joined}
+use Rattle.rup_check.specs.own.Pages.{joined}
 use Rattle.rup_check.proofs.PagesLaws.{within_page, set_by}
 use Rattle.rup_check.proofs.pages.Pages.remove.Goals as goal
 

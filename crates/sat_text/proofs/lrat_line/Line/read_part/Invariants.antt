@@ -1,6 +1,6 @@
 use Rattle.std.proofs.Common.{List, length}
 use Rattle.sat_text.specs.declared.words.Signed.{Signed}
-use Rattle.sat_text.specs.Reading.{Reads}
+use Rattle.sat_text.specs.own.Reading.{Reads}
 use Rattle.sat_text.proofs.LineLaws.{Passes}
 use Rattle.sat_text.proofs.lrat_line.Line.read_part.Given as goal
 

@@ -2,7 +2,7 @@ use Rattle.std.proofs.Common.{◌≡◌, ◌∙◌, ℕ, List, Bool, false, true
 use Rattle.sat_text.specs.Lines.{counted, last_part}
 use Rattle.sat_text.specs.Values.{NoText, with_line}
 use Rattle.sat_text.specs.Stands.{ReaderView, HasTold, Goes}
-use Rattle.sat_text.proofs.ValueReading.{end_refused, end_values, end_open}
+use Rattle.sat_text.proofs.published.ValueReading.{end_refused, end_values, end_open}
 use Rattle.sat_text.proofs.value_reader.Reader.finish.Goals as goal
 
 pub returns-then-not-take-clause-refused : goal.returns-then-not-take-clause-refused

@@ -1,8 +1,8 @@
 use Rattle.std.proofs.Common.{◌≡◌, ◌∙◌, ◌++◌, ◌∷◌, [], ℕ, List, Bool, Ok, sym, ap, subst}
-use Rattle.sat_text.proofs.Texts.{text_on}
+use Rattle.sat_text.proofs.published.Texts.{text_on}
 use Rattle.sat_text.specs.Values.{NoText, model_of, with_line}
 use Rattle.sat_text.specs.Stands.{ReaderView, Goes, HasRead}
-use Rattle.sat_text.proofs.ValueReading.{refused, went_on, held_on}
+use Rattle.sat_text.proofs.published.ValueReading.{refused, went_on, held_on}
 use Rattle.sat_text.proofs.value_reader.Reader.take.Goals as goal
 
 pub returns-then-not-branch-clause-refused : goal.returns-then-not-branch-clause-refused

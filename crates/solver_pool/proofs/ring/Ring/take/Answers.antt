@@ -1,5 +1,5 @@
 use Rattle.crossbeam_queue.specs.Passes.{view}
-use Rattle.solver_pool.specs.Steps.{Settles}
+use Rattle.solver_pool.specs.own.Steps.{Settles}
 use Rattle.solver_pool.proofs.Keeps.{takes, settles, found, took_all}
 use Rattle.solver_pool.proofs.ring.Ring.take.Goals as goal
 

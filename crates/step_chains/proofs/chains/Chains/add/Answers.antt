@@ -1,9 +1,9 @@
 use Rattle.std.proofs.Common.{arith, ◌+◌, ◌<◌, ◌++◌, ◌∷◌, [], ℕ, List, false, length, ap, sym, ◌∙◌, subst, refl}
 use Rattle.std.specs.List.{AllByRecursion}
 use Rattle.step_chains.specs.declared.link.Link.{Link}
-use Rattle.step_chains.specs.Links.{link_count}
+use Rattle.step_chains.specs.own.Links.{link_count}
 use Rattle.step_chains.specs.Chains.{LinkedChains, HasRoom}
-use Rattle.step_chains.proofs.ExtendLaw.{linked, none_found, one_found, within_more}
+use Rattle.step_chains.proofs.published.ExtendLaw.{linked, none_found, one_found, within_more}
 use Rattle.step_chains.proofs.chains.Chains.add.Goals as goal
 
 pub returns-then-count-eq0-clause-added : goal.returns-then-count-eq0-clause-added

@@ -1,5 +1,5 @@
 use Rattle.std.proofs.Common.{reverse, sym, ap, ◌∙◌}
-use Rattle.step_chains.proofs.ExtendLaw.{links_back}
+use Rattle.step_chains.proofs.published.ExtendLaw.{links_back}
 use Rattle.step_chains.proofs.chains.Chains.add_backward.Goals as goal
 
 pub returns : goal.returns

@@ -1,7 +1,7 @@
 use Rattle.std.proofs.Common.{arith, ◌≤◌, ◌++◌, List, length, ap, ◌∙◌}
-use Rattle.horizon_formula.specs.Layout.{action_at, chain_at}
-use Rattle.horizon_formula.specs.Clause.{Literal}
-use Rattle.horizon_formula.specs.Coded.{coded}
+use Rattle.formula_defs.specs.Layout.{action_at, chain_at}
+use Rattle.formula_defs.specs.Clause.{Literal}
+use Rattle.formula_defs.specs.Coded.{coded}
 use Rattle.step_chains.proofs.ClauseLaw.{chain_next, chains_done, are_clauses}
 use Rattle.step_chains.proofs.chains.Chains.add_clauses.Goals as goal
 

@@ -1,6 +1,6 @@
 use Rattle.std.proofs.Common.{◌≡◌, ◌++◌, drop}
-use Rattle.horizon_formula.specs.Layout.{action_at, chain_at}
-use Rattle.horizon_formula.specs.Coded.{coded}
+use Rattle.formula_defs.specs.Layout.{action_at, chain_at}
+use Rattle.formula_defs.specs.Coded.{coded}
 use Rattle.step_chains.specs.Chains.{all_clauses}
 use Rattle.step_chains.proofs.chains.Chains.add_clauses.Given as goal
 

@@ -1,4 +1,4 @@
-use Rattle.step_chains.proofs.ExtendLaw.{short_found, one_component}
+use Rattle.step_chains.proofs.published.ExtendLaw.{short_found, one_component}
 use Rattle.step_chains.proofs.chains.Chains.add_component.Goals as goal
 
 pub returns-then-members-lt2-clause-added : goal.returns-then-members-lt2-clause-added

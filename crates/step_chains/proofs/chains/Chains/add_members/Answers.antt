@@ -1,9 +1,9 @@
 use Rattle.std.proofs.Common.{arith, ◌≡◌, ◌+◌, ◌*◌, ◌<◌, ◌≤◌, ℕ, List, sym, ◌∙◌, subst}
 use Rattle.std.specs.List.{AllByRecursion}
 use Rattle.step_chains.specs.declared.link.Link.{Link}
-use Rattle.step_chains.specs.Touching.{links_of}
+use Rattle.step_chains.specs.own.Touching.{links_of}
 use Rattle.step_chains.specs.BothWays.{ways}
-use Rattle.step_chains.proofs.ExtendLaw.{nothing_found, literal_more, skip_to, links_within, room_of_literal, all_literals}
+use Rattle.step_chains.proofs.published.ExtendLaw.{nothing_found, literal_more, skip_to, links_within, room_of_literal, all_literals}
 use Rattle.step_chains.proofs.chains.Chains.add_members.Goals as goal
 
 pub add_ways-requires-clause-actions : goal.add_ways-requires-clause-actions

@@ -1,6 +1,6 @@
 use Rattle.std.proofs.Common.{◌+◌, ◌*◌, ◌∙◌, drop, length}
 use Rattle.gt_core.specs.Published.{order_of}
-use Rattle.step_chains.proofs.ExtendLaw.{group_more, room_of_component, room_of_order, group_at}
+use Rattle.step_chains.proofs.published.ExtendLaw.{group_more, room_of_component, room_of_order, group_at}
 use Rattle.step_chains.proofs.chains.Chains.find.Goals as goal
 
 pub loop-members-preserved : goal.loop-members-preserved

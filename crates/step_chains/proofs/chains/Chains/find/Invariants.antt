@@ -1,6 +1,6 @@
 use Rattle.std.proofs.Common.{◌≡◌, ◌*◌, length, drop}
 use Rattle.gt_core.specs.Published.{order_of}
-use Rattle.horizon_formula.specs.Variables.{chain_places}
+use Rattle.formula_defs.specs.Variables.{chain_places}
 use Rattle.step_chains.specs.Chains.{LinkedChains, Extends, HasRoom}
 use Rattle.step_chains.proofs.chains.Chains.find.Given as goal
 

@@ -1,6 +1,6 @@
 use Rattle.std.proofs.Common.{ℕ, List, ◌<◌, length, sym, ◌∙◌, subst}
 use Rattle.std.specs.List.{AllByRecursion}
-use Rattle.step_chains.proofs.ExtendLaw.{each_of_order}
+use Rattle.step_chains.proofs.published.ExtendLaw.{each_of_order}
 use Rattle.step_chains.proofs.chains.Chains.find_both_ways.Goals as goal
 
 pub add_members-requires-clause-members : goal.add_members-requires-clause-members

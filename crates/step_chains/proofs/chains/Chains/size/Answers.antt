@@ -1,7 +1,7 @@
 use Rattle.std.proofs.Common.{◌*◌, List, ap, ◌∙◌, sym}
-use Rattle.horizon_formula.specs.Layout.{action_at, chain_at}
-use Rattle.horizon_formula.specs.Clause.{Literal}
-use Rattle.horizon_formula.specs.Coded.{coded, literals_in}
+use Rattle.formula_defs.specs.Layout.{action_at, chain_at}
+use Rattle.formula_defs.specs.Clause.{Literal}
+use Rattle.formula_defs.specs.Coded.{coded, literals_in}
 use Rattle.step_chains.specs.Chains.{LinkedChain, links_in}
 use Rattle.step_chains.proofs.ClauseLaw.{are_clauses}
 use Rattle.step_chains.proofs.SizeLaw.{sizes_done, sizes_next, few_next, one_few}

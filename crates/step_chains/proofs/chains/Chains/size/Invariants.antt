@@ -1,6 +1,6 @@
 use Rattle.std.proofs.Common.{◌≡◌, ◌+◌, ◌*◌, ◌≤◌, false, drop}
 use Rattle.std.specs.Prelude.{sum_by}
-use Rattle.step_chains.specs.Links.{link_size}
+use Rattle.step_chains.specs.own.Links.{link_size}
 use Rattle.step_chains.specs.Chains.{links_in}
 use Rattle.step_chains.proofs.chains.Chains.size.Given as goal
 

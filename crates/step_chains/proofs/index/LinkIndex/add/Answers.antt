@@ -4,7 +4,7 @@ use Rattle.gt_core.specs.Literal.{opposite, is_in}
 use Rattle.gt_core.specs.Task.{Action, Effect, action}
 use Rattle.gt_core.specs.Interference.{takes, reads}
 use Rattle.gt_core.specs.Active.{EffectWithin}
-use Rattle.gt_core.proofs.Within.{action_effects_within, precondition_within}
+use Rattle.gt_core.proofs.published.Within.{action_effects_within, precondition_within}
 use Rattle.step_chains.proofs.IndexLaw.{marks_then, marks_same}
 use Rattle.step_chains.proofs.RangeLaw.{takers_below, readers_below, conditions_below}
 use Rattle.step_chains.proofs.index.LinkIndex.add.Goals as goal

@@ -1,5 +1,5 @@
 use Rattle.std.proofs.Common.{arith, ◌<◌, ◌==◌, ℕ, false, length, refl, get_or, ◌∙◌}
-use Rattle.gt_core.proofs.Lists.{each_number}
+use Rattle.gt_core.proofs.published.Lists.{each_number}
 use Rattle.step_chains.proofs.IndexLaw.{reads_next, none_left, marks_none}
 use Rattle.step_chains.proofs.index.LinkIndex.add_readers.Goals as goal
 

@@ -1,7 +1,7 @@
 use Rattle.std.proofs.Common.{arith, ◌<◌, ◌==◌, ℕ, false, length, refl, ap, ◌∙◌}
 use Rattle.gt_core.specs.Literal.{opposite}
 use Rattle.gt_core.specs.Task.{Effect}
-use Rattle.gt_core.proofs.Lists.{each_number}
+use Rattle.gt_core.proofs.published.Lists.{each_number}
 use Rattle.step_chains.proofs.IndexLaw.{takes_next, none_left, marks_none, opposite_is, marks_same}
 use Rattle.step_chains.proofs.index.LinkIndex.add_takers.Goals as goal
 

@@ -2,7 +2,7 @@ use Rattle.std.proofs.Common.{◌≡◌, ◌==◌, List, false, length, drop}
 use Rattle.std.specs.List.{list_any}
 use Rattle.gt_core.specs.Literal.{opposite}
 use Rattle.step_chains.specs.declared.link.Link.{Link}
-use Rattle.step_chains.specs.Index.{Marks}
+use Rattle.step_chains.specs.own.Index.{Marks}
 use Rattle.step_chains.proofs.index.LinkIndex.add_takers.Given as goal
 
 abbrev pub invariant-loop-effect : goal.invariant-loop-effect

@@ -1,5 +1,5 @@
 use Rattle.std.proofs.Common.{◌<◌, ℕ, [], length, get_or, refl, ◌∙◌}
-use Rattle.gt_core.proofs.Lists.{each_number}
+use Rattle.gt_core.proofs.published.Lists.{each_number}
 use Rattle.step_chains.proofs.IndexLaw.{index_more, empty_index}
 use Rattle.step_chains.proofs.index.LinkIndex.fill.Goals as goal
 

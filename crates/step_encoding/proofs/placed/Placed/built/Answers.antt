@@ -1,5 +1,5 @@
 use Rattle.std.proofs.Common.{◌∙◌, ap, sym}
-use Rattle.horizon_formula.specs.Layout.{Layout}
+use Rattle.formula_defs.specs.Layout.{Layout}
 use Rattle.step_laws.specs.Form.{OrderedTask}
 use Rattle.step_encoding.proofs.Counted.{has_parts}
 use Rattle.step_encoding.proofs.Parted.{formula_from, steps_fit, times_fit, clauses_few}

@@ -1,6 +1,6 @@
 use Rattle.std.proofs.Common.{◌≡◌, ℕ, List, length, ap, ◌∙◌, sym}
 use Rattle.std.specs.List.{filter}
-use Rattle.horizon_formula.specs.Layout.{Layout, action_at}
+use Rattle.formula_defs.specs.Layout.{Layout, action_at}
 use Rattle.gt_core.specs.Published.{order_of}
 use Rattle.clause_base.specs.Formula.{assignment_of}
 use Rattle.step_laws.specs.Form.{OrderedTask}

@@ -1,7 +1,7 @@
 use Rattle.std.proofs.Common.{◌≡◌, map}
 use Rattle.std.specs.List.{filter}
 use Rattle.gt_core.specs.Literal.{range}
-use Rattle.horizon_formula.specs.Layout.{action_at}
+use Rattle.formula_defs.specs.Layout.{action_at}
 use Rattle.gt_core.specs.Published.{order_of}
 use Rattle.clause_base.specs.Formula.{assignment_of}
 use Rattle.step_encoding.proofs.placed.PlacedStepForm.steps_of.Given as goal

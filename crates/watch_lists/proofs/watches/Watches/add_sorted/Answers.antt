@@ -1,7 +1,7 @@
 use Rattle.std.proofs.Common.{◌∙◌, ap, sym, subst}
 use Rattle.clause_base.specs.Clause.{has_literal, HasVariablesBelow}
 use Rattle.propagation.specs.Front.{first_asked}
-use Rattle.cdcl_trail.specs.Assignment.{literals}
+use Rattle.cdcl_tables.specs.Assignment.{literals}
 use Rattle.propagation.specs.Pending.{PropagatorView}
 use Rattle.watch_lists.specs.Pending.{WatchesView}
 use Rattle.watch_lists.proofs.Firsts.{known}

@@ -1,10 +1,10 @@
 use Rattle.std.proofs.Common.{arith, ◌≡◌, ◌/◌, ◌<◌, ◌∙◌, ℕ, length, set, sym, ap, subst}
 use Rattle.clause_base.specs.Literal.{opposite}
 use Rattle.clause_base.specs.Clause.{has_literal}
-use Rattle.cdcl_rules.specs.State.{value_of}
-use Rattle.cdcl_trail.specs.Mirrored.{TrailView}
+use Rattle.cdcl_defs.specs.State.{value_of}
+use Rattle.cdcl_tables.specs.Mirrored.{TrailView}
 use Rattle.propagation.specs.Pending.{PropagatorView}
-use Rattle.watch_lists.specs.Known.{AreKnown}
+use Rattle.watch_lists.specs.own.Known.{AreKnown}
 use Rattle.watch_lists.specs.Pending.{WatchesView}
 use Rattle.watch_lists.proofs.Firsts.{known}
 use Rattle.watch_lists.proofs.Knowns.{known_push, known_same, pushed}

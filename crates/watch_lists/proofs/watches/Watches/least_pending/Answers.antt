@@ -1,7 +1,7 @@
 use Rattle.std.proofs.Common.{◌∙◌, length, sym, ap}
 use Rattle.clause_base.specs.Clause.{has_literal}
-use Rattle.cdcl_rules.specs.Pending.{is_pending_in, least_from}
-use Rattle.cdcl_trail.specs.Assignment.{literals}
+use Rattle.cdcl_defs.specs.Pending.{is_pending_in, least_from}
+use Rattle.cdcl_tables.specs.Assignment.{literals}
 use Rattle.watch_lists.specs.Pending.{WatchesView}
 use Rattle.watch_lists.proofs.Firsts.{first_none, first_some}
 use Rattle.watch_lists.proofs.watches.Watches.least_pending.Goals as goal

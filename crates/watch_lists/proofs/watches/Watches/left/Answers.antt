@@ -1,7 +1,7 @@
 use Rattle.std.proofs.Common.{◌≡◌, ◌∙◌, ◌∷◌, [], ℕ, ap, subst, MatchOption}
 use Rattle.clause_base.specs.Clause.{has_literal}
-use Rattle.cdcl_rules.specs.Pending.{is_pending_in, open_ones}
-use Rattle.cdcl_rules.specs.State.{clause_at}
+use Rattle.cdcl_defs.specs.Pending.{is_pending_in, open_ones}
+use Rattle.cdcl_defs.specs.State.{clause_at}
 use Rattle.watch_lists.specs.Pending.{WatchesView}
 use Rattle.watch_lists.proofs.watches.Watches.left.Goals as goal
 

@@ -1,5 +1,5 @@
 use Rattle.std.proofs.Common.{arith, ◌≡◌, ◌<◌, ◌∙◌, length, ap}
-use Rattle.cdcl_trail.specs.Mirrored.{TrailView}
+use Rattle.cdcl_tables.specs.Mirrored.{TrailView}
 use Rattle.watch_lists.proofs.Firsts.{known}
 use Rattle.watch_lists.proofs.Knowns.{known_cut, known_same}
 use Rattle.watch_lists.proofs.Views.{view_cut}

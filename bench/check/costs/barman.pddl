@@ -1,0 +1,58 @@
+(define (domain barman)
+  (:requirements :strips :typing :action-costs)
+  (:types hand level beverage dispenser container - object
+          ingredient cocktail - beverage
+          shot shaker - container)
+  (:predicates (ontable ?c - container) (holding ?h - hand ?c - container) (handempty ?h - hand) (empty ?c - container)
+     (contains ?c - container ?b - beverage) (clean ?c - container) (used ?c - container ?b - beverage)
+     (dispenses ?d - dispenser ?i - ingredient) (shaker-empty-level ?s - shaker ?l - level) (shaker-level ?s - shaker ?l - level)
+     (next ?l1 ?l2 - level) (unshaked ?s - shaker) (shaked ?s - shaker)
+     (cocktail-part1 ?a - cocktail ?b - ingredient) (cocktail-part2 ?a - cocktail ?b - ingredient))
+  (:functions (total-cost) - number)
+  (:action grasp
+    :parameters (?h - hand ?c - container)
+    :precondition (and (ontable ?c) (handempty ?h))
+    :effect (and (not (ontable ?c)) (not (handempty ?h)) (holding ?h ?c) (increase (total-cost) 1)))
+  (:action leave
+    :parameters (?h - hand ?c - container)
+    :precondition (holding ?h ?c)
+    :effect (and (not (holding ?h ?c)) (handempty ?h) (ontable ?c) (increase (total-cost) 1)))
+  (:action fill-shot
+    :parameters (?s - shot ?i - ingredient ?h1 ?h2 - hand ?d - dispenser)
+    :precondition (and (holding ?h1 ?s) (handempty ?h2) (dispenses ?d ?i) (empty ?s) (clean ?s))
+    :effect (and (not (empty ?s)) (contains ?s ?i) (not (clean ?s)) (used ?s ?i) (increase (total-cost) 10)))
+  (:action clean-shot
+    :parameters (?s - shot ?b - beverage ?h1 ?h2 - hand)
+    :precondition (and (holding ?h1 ?s) (handempty ?h2) (empty ?s) (used ?s ?b))
+    :effect (and (not (used ?s ?b)) (clean ?s) (increase (total-cost) 1)))
+  (:action pour-shot-to-clean-shaker
+    :parameters (?s - shot ?i - ingredient ?d - shaker ?h1 - hand ?l ?l1 - level)
+    :precondition (and (holding ?h1 ?s) (contains ?s ?i) (empty ?d) (clean ?d) (shaker-level ?d ?l) (next ?l ?l1))
+    :effect (and (not (contains ?s ?i)) (empty ?s) (contains ?d ?i) (not (empty ?d)) (not (clean ?d)) (unshaked ?d)
+                 (not (shaker-level ?d ?l)) (shaker-level ?d ?l1) (increase (total-cost) 1)))
+  (:action pour-shot-to-used-shaker
+    :parameters (?s - shot ?i - ingredient ?d - shaker ?h1 - hand ?l ?l1 - level)
+    :precondition (and (holding ?h1 ?s) (contains ?s ?i) (unshaked ?d) (shaker-level ?d ?l) (next ?l ?l1))
+    :effect (and (not (contains ?s ?i)) (contains ?d ?i) (empty ?s) (not (shaker-level ?d ?l)) (shaker-level ?d ?l1)
+                 (increase (total-cost) 1)))
+  (:action shake
+    :parameters (?b - cocktail ?d1 ?d2 - ingredient ?s - shaker ?h1 ?h2 - hand)
+    :precondition (and (holding ?h1 ?s) (handempty ?h2) (contains ?s ?d1) (contains ?s ?d2) (cocktail-part1 ?b ?d1)
+                       (cocktail-part2 ?b ?d2) (unshaked ?s))
+    :effect (and (not (unshaked ?s)) (not (contains ?s ?d1)) (not (contains ?s ?d2)) (shaked ?s) (contains ?s ?b)
+                 (increase (total-cost) 1)))
+  (:action pour-shaker-to-shot
+    :parameters (?b - beverage ?d - shot ?h1 - hand ?s - shaker ?l ?l1 - level)
+    :precondition (and (holding ?h1 ?s) (shaked ?s) (empty ?d) (clean ?d) (contains ?s ?b) (shaker-level ?s ?l) (next ?l1 ?l))
+    :effect (and (not (clean ?d)) (not (empty ?d)) (contains ?d ?b) (shaker-level ?s ?l1) (not (shaker-level ?s ?l))
+                 (increase (total-cost) 1))))
+(define (problem prob)
+  (:domain barman)
+  (:objects shaker1 - shaker left right - hand shot1 - shot ingredient1 ingredient2 - ingredient cocktail1 - cocktail
+            dispenser1 dispenser2 - dispenser l0 l1 l2 - level)
+  (:init (= (total-cost) 0) (ontable shaker1) (ontable shot1) (dispenses dispenser1 ingredient1) (dispenses dispenser2 ingredient2)
+    (clean shaker1) (clean shot1) (empty shaker1) (empty shot1) (handempty left) (handempty right)
+    (shaker-empty-level shaker1 l0) (shaker-level shaker1 l0) (next l0 l1) (next l1 l2)
+    (cocktail-part1 cocktail1 ingredient1) (cocktail-part2 cocktail1 ingredient2))
+  (:goal (and (contains shot1 cocktail1)))
+  (:metric minimize (total-cost)))

@@ -1,8 +1,0 @@
-(define (problem os-sequencedstrips-two)
-  (:domain openstacks-sequencedstrips-adl-included)
-  (:objects n0 n1 n2 - count)
-  (:init (next-count n0 n1) (next-count n1 n2) (stacks-avail n0)
-    (waiting o1) (includes o1 p1) (includes o1 p2) (waiting o2) (includes o2 p2)
-    (= (total-cost) 0))
-  (:goal (and (shipped o1) (shipped o2)))
-  (:metric minimize (total-cost)))

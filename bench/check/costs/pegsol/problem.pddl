@@ -1,8 +1,0 @@
-(define (problem peg-solitaire-row)
-  (:domain pegsolitaire-sequential)
-  (:objects a b c d e - location)
-  (:init (= (total-cost) 0)
-    (IN-LINE a b c) (IN-LINE c b a) (IN-LINE b c d) (IN-LINE d c b) (IN-LINE c d e) (IN-LINE e d c)
-    (move-ended) (occupied a) (occupied b) (occupied d) (free c) (free e))
-  (:goal (and (free a) (free b) (free c) (free d) (occupied e)))
-  (:metric minimize (total-cost)))

@@ -1,7 +1,0 @@
-(define (problem scanalyzer-two)
-  (:domain scanalyzer3d)
-  (:objects seg-in-1 seg-out-1 - segment car-in-1 car-out-1 - car)
-  (:init (= (total-cost) 0)
-    (cycle-2 seg-in-1 seg-out-1) (cycle-2-with-analysis seg-in-1 seg-out-1) (on car-in-1 seg-in-1) (on car-out-1 seg-out-1))
-  (:goal (and (analyzed car-in-1) (analyzed car-out-1) (on car-in-1 seg-in-1) (on car-out-1 seg-out-1)))
-  (:metric minimize (total-cost)))

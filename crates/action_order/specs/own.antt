@@ -1,0 +1,10 @@
+pub mod Graph
+pub mod Walk
+pub mod Quotient
+pub mod KeySet
+pub mod Sorting
+pub mod SortingOf
+pub mod Group
+pub mod Readers
+pub mod Sure
+pub mod Edges

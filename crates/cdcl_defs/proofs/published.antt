@@ -1,0 +1,16 @@
+pub mod Tests
+pub mod Members
+pub mod WalkLaw
+pub mod Pending
+pub mod Trails
+pub mod Cutting
+pub mod Measure
+pub mod Advance
+pub mod Orders
+pub mod Logs
+pub mod Lawful
+pub mod Kept
+pub mod Fuel
+pub mod Start
+pub mod Cuts
+pub mod Stops

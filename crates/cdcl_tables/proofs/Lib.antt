@@ -1,0 +1,11 @@
+pub mod Shifts
+pub mod Blocks
+pub mod Exacts
+pub mod Steps
+pub mod Whole
+pub mod Shapes
+pub mod Linking
+pub mod ChainWalks
+pub mod Refilled
+pub mod Lookups
+pub mod published

@@ -1,0 +1,4 @@
+pub mod Five
+pub mod Assignments
+pub mod Levels
+pub mod Mirrors

@@ -1,0 +1,7 @@
+pub mod Pairs
+pub mod Origin
+pub mod Linked
+pub mod Walk
+pub mod Assignment
+pub mod Mirrored
+pub mod own

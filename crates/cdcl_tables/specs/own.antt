@@ -1,0 +1,3 @@
+pub mod Stored
+pub mod Moved
+pub mod Lists

@@ -1,4 +1,0 @@
-pub mod Assignments
-pub mod Levels
-pub mod Mirrors
-pub mod Lookups

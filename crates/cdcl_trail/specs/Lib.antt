@@ -1,2 +1,0 @@
-pub mod Assignment
-pub mod Mirrored

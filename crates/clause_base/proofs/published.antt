@@ -1,0 +1,10 @@
+pub mod ClauseLemmas
+pub mod Rising
+pub mod ViewLemmas
+pub mod Neighbours
+pub mod Refutation
+pub mod Moved
+pub mod ToldLemmas
+pub mod RepeatLemmas
+pub mod PairCounts
+pub mod PairTables

@@ -1,0 +1,4 @@
+pub mod Sizes
+pub mod Joined
+pub mod PairRows
+pub mod Shared

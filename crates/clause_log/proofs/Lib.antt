@@ -1,4 +1,0 @@
-pub mod HeldLaws
-pub mod Turns
-pub mod NumberLaws
-pub mod NumbersLaws

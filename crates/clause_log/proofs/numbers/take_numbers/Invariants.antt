@@ -1,7 +1,0 @@
-use Rattle.std.proofs.Common.{◌-◌}
-use Rattle.std.specs.Prelude.{vec_capacity}
-use Rattle.clause_log.proofs.NumbersLaws.{IsRead}
-use Rattle.clause_log.proofs.numbers.take_numbers.Given as goal
-
-abbrev pub invariant-loop : goal.invariant-loop
-invariant-loop l = IsRead l.bytes l.count l.numbers.items l.rest l.last (l.count - l.counter) (vec_capacity l.numbers)

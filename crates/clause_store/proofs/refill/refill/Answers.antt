@@ -1,5 +1,0 @@
-use Rattle.clause_store.proofs.Refilled.{filled}
-use Rattle.clause_store.proofs.refill.refill.Goals as goal
-
-pub returns : goal.returns
-returns g c = filled _ _ _ _ c.args.count c.args.item c.in_ok-resize.ensures.items c.clear.ensures.items c.clear.ensures.len

@@ -1,0 +1,192 @@
+//! What the bytes of its files decide for a request.
+ghost use Rattle.std.specs.Prelude.{◌≡◌, ◌≤◌, ◌<◌, ◌^◌, ◌∷◌, [], length, IsTrue, IfOk, Ok};
+ghost use Rattle.std.specs.List.{list_all};
+ghost use Rattle.pd_model.specs.Fits.{is_call};
+ghost use Rattle.pd_plan.specs.PlanFile.{plan_file};
+ghost use Rattle.requests.specs.Seen.{seen, files_of, IsSized};
+ghost use Rattle.requests.specs.OneTask.{IsOfOne};
+ghost use Rattle.input_files.specs.Limits.{most_bytes, most_of, third_of, file_at, AreShort};
+ghost use Rattle.commands.specs.Tasks.{OnceRead, OnceGrounded};
+ghost use Rattle.commands.specs.Answers.{Decides, AnswersPlan, AnswersGround, AnswersOrder, AnswersCheck, RefusesCalls, ending_of};
+ghost use Rattle.input_files.specs.Ends.{EndsAs, StopsBy};
+
+use crate::certify::{answer_prove, answer_verify};
+use crate::generated::answer_gen;
+use crate::raced::raced;
+use crate::reported::reported;
+use action_order::publish::publish;
+use horizon_rates::Settings;
+use input_files::parts::{three_of, two_of};
+use input_files::stop::{Stop, refuse};
+use pd_model::{Calls, Pddl, Verdict};
+use pd_plan::{PlanFault, read_plan};
+use pl_io::Bytes;
+use plan_endings::{Ending, File, Kind};
+use plan_report::{push_ground, push_order};
+use plan_tasks::ready::read_ready;
+use plan_tasks::task::read_task;
+use requests::{Request, Stepping};
+use solver_pool::Gate;
+use std::alloc::Global;
+use std::sync::Wait;
+use std::thread::Threads;
+use two_invariants::find;
+
+/// What the bytes of its files, in the order of the words, decide for a request.
+#[tactic(auto, using(crate::proofs::Answered::counted))]
+pub fn answer<H: Threads + Wait + Sync, G: Gate>(
+    rt: &H,
+    alloc: Global,
+    request: &Request<'_>,
+    files: &[Bytes],
+    gate: &G,
+) -> Result<Ending, Stop>
+    requires fit { AreShort (file_at (seen request.now)) 0 files.now }
+    requires count { length files.now ≡ length (files_of (seen request.now)) }
+    requires sized { IsSized (seen request.now) }
+    requires of_one { IsOfOne (seen request.now) }
+    ensures { EndsAs (Decides (seen request.now) files.now) result }
+{
+    match request {
+        Request::Plan {
+            stepping,
+            settings,
+            ..
+        } => {
+            let (domain, problem) = two_of(request, files);
+            answer_plan(rt, alloc, *stepping, domain, problem, settings, gate)
+        }
+        Request::Ground { .. } => {
+            let (domain, problem) = two_of(request, files);
+            answer_ground(alloc, domain, problem)
+        }
+        Request::Order { .. } => {
+            let (domain, problem) = two_of(request, files);
+            answer_order(rt, alloc, domain, problem)
+        }
+        Request::Check { .. } => {
+            let (domain, problem, plan) = three_of(request, files);
+            answer_check(alloc, domain, problem, plan)
+        }
+        Request::Gen {
+            kind,
+            number,
+            settings,
+            show,
+        } => answer_gen(rt, alloc, *kind, *number, *show, settings, gate),
+        Request::Prove {
+            horizon,
+            budget,
+            ..
+        } => {
+            let (domain, problem) = two_of(request, files);
+            answer_prove(rt, alloc, domain, problem, *horizon, *budget)
+        }
+        Request::Verify { .. } => {
+            let (domain, problem, proof) = three_of(request, files);
+            answer_verify(rt, alloc, domain, problem, proof)
+        }
+        // Of several tasks: the caller's condition leaves it out.
+        Request::Batch { .. } => unreachable!(),
+    }
+}
+
+// What a domain and a problem come to for the commands `plan` and `plan-all`.
+fn answer_plan<H: Threads + Wait + Sync, G: Gate>(
+    rt: &H,
+    alloc: Global,
+    steps: Stepping,
+    domain: &[u8],
+    problem: &[u8],
+    settings: &Settings,
+    gate: &G,
+) -> Result<Ending, Stop>
+    requires domain_fits { length domain.now ≤ most_bytes }
+    requires problem_fits { length problem.now ≤ most_bytes }
+    ensures { EndsAs (OnceGrounded domain.now problem.now (AnswersPlan steps settings.now)) result }
+{
+    let ready = read_ready(alloc, domain, problem)?;
+    let end = raced(rt, alloc, steps, ready.grounded.task(), settings, gate)?;
+    reported(alloc, &ready, &end, settings)
+}
+
+// What a domain and a problem come to for the command `ground`.
+fn answer_ground(alloc: Global, domain: &[u8], problem: &[u8]) -> Result<Ending, Stop>
+    requires domain_fits { length domain.now ≤ most_bytes }
+    requires problem_fits { length problem.now ≤ most_bytes }
+    ensures { EndsAs (OnceGrounded domain.now problem.now AnswersGround) result }
+{
+    let ready = read_ready(alloc, domain, problem)?;
+    let mut text = Vec::new(alloc);
+    push_ground(&ready.task, &ready.grounded, &mut text)?;
+    Ok(Ending::Listing(Bytes::of(text)))
+}
+
+// What a domain and a problem come to for the command `order`.
+fn answer_order<H: Threads + Sync>(
+    rt: &H,
+    alloc: Global,
+    domain: &[u8],
+    problem: &[u8],
+) -> Result<Ending, Stop>
+    requires domain_fits { length domain.now ≤ most_bytes }
+    requires problem_fits { length problem.now ≤ most_bytes }
+    ensures { EndsAs (OnceGrounded domain.now problem.now AnswersOrder) result }
+{
+    let ready = read_ready(alloc, domain, problem)?;
+    let acts = ready.grounded.task();
+    let pairs = find(rt, alloc, acts)?;
+    let order = publish(alloc, acts, &pairs)?;
+    let mut text = Vec::new(alloc);
+    push_order(&ready.task, &ready.grounded, &order, &pairs, &mut text)?;
+    Ok(Ending::Listing(Bytes::of(text)))
+}
+
+// What a domain, a problem and a plan come to for the command `check`.
+fn answer_check(alloc: Global, domain: &[u8], problem: &[u8], plan: &[u8]) -> Result<Ending, Stop>
+    requires domain_fits { length domain.now ≤ most_bytes }
+    requires problem_fits { length problem.now ≤ most_bytes }
+    requires plan_fits { length plan.now ≤ most_bytes }
+    ensures { EndsAs (OnceRead domain.now problem.now (λ task. AnswersCheck task plan.now)) result }
+{
+    let task = read_task(alloc, domain, problem)?;
+    check_task(alloc, &task, plan)
+}
+
+// What a task comes to for the command `check`, with the bytes of a plan file.
+fn check_task(alloc: Global, task: &Pddl, plan: &[u8]) -> Result<Ending, Stop>
+    requires { length plan.now ≤ most_bytes }
+    ensures { EndsAs (AnswersCheck task.now plan.now) result }
+{
+    let calls = read_calls(alloc, task, plan)?;
+    Ok(ending(task.run_plan(alloc, calls.as_slice())?))
+}
+
+// The calls of a plan file.
+fn read_calls(alloc: Global, task: &Pddl, plan: &[u8]) -> Result<Calls, Stop>
+    requires { length plan.now ≤ most_bytes }
+    ensures calls { IfOk result (λ calls. plan_file task.now plan.now ≡ Ok calls) }
+    ensures are_calls { IfOk result (λ calls. IsTrue (list_all (is_call task.now) calls)) }
+    ensures few { IfOk result (λ calls. length calls < 2 ^ 32) }
+    ensures stops { StopsBy (RefusesCalls task.now plan.now) result }
+{
+    let file = File::Plan;
+    match read_plan(alloc, plan, task) {
+        Ok(calls) => Ok(calls),
+        Err(PlanFault::Syntax { at }) => Err(refuse(Kind::Syntax, file, at)),
+        Err(PlanFault::Unknown { at }) => Err(refuse(Kind::Unknown, file, at)),
+        Err(PlanFault::Arity { at }) => Err(refuse(Kind::Arity, file, at)),
+        Err(PlanFault::Mistyped { at }) => Err(refuse(Kind::Mistyped, file, at)),
+        Err(PlanFault::Memory) => Err(Stop::Memory),
+    }
+}
+
+fn ending(verdict: Verdict) -> Ending
+    ensures { result ≡ ending_of verdict }
+{
+    match verdict {
+        Verdict::Reaches => Ending::Reaches,
+        Verdict::Blocked { index } => Ending::Blocked { index },
+        Verdict::Short => Ending::Short,
+    }
+}

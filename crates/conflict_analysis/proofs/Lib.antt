@@ -1,0 +1,12 @@
+pub mod Count
+pub mod Resolvents
+pub mod Steps
+pub mod Levels
+pub mod Kept
+pub mod Among
+pub mod Marks
+pub mod Sought
+pub mod Walking
+pub mod Marked
+pub mod Orders
+pub mod published

@@ -1,0 +1,4 @@
+pub mod Alike
+pub mod Renamed
+mod WorkedRows
+pub mod published

@@ -1,0 +1,11 @@
+pub mod LayoutLaw
+pub mod Satisfied
+pub mod Counts
+pub mod CodedLaw
+pub mod InRange
+pub mod ShiftLaw
+pub mod SizeLaw
+pub mod FewLaw
+pub mod Sorted
+pub mod ClauseSize
+pub mod Within

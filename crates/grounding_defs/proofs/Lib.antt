@@ -1,0 +1,16 @@
+pub mod Bridge
+pub mod Reaching
+pub mod Constants
+pub mod Simplifying
+pub mod Steps
+pub mod Turns
+pub mod Goal
+pub mod Whole
+pub mod Runs
+pub mod TaskLaw
+pub mod Tasks
+pub mod Rows
+pub mod WithConstant
+pub mod WithDelete
+pub mod Refused
+pub mod published

@@ -1,0 +1,13 @@
+pub mod Basics
+pub mod Lists
+pub mod Pairwise
+pub mod Literals
+pub mod Makers
+pub mod PublishedLaw
+pub mod UniqueLaw
+pub mod RunLaw
+pub mod StepLaw
+pub mod EachOrder
+pub mod SequenceLaw
+pub mod Within
+pub mod NextLaw

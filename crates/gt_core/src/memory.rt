@@ -1,3 +1,0 @@
-//! Want of memory, for the crates that stand on this one too.
-
-pub use containers::memory::Memory;

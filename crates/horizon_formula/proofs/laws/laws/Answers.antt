@@ -1,8 +1,0 @@
-use Rattle.horizon_formula.proofs.CodedLaw.{encoded, decoded}
-use Rattle.horizon_formula.proofs.laws.laws.Goals as goal
-
-pub returns-clause-enough : goal.returns-clause-enough
-returns-clause-enough c = decoded
-
-pub returns-clause-no_more : goal.returns-clause-no_more
-returns-clause-no_more c = encoded

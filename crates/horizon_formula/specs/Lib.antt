@@ -1,8 +1,0 @@
-pub mod Layout
-pub mod Clause
-pub mod Chain
-pub mod Variables
-pub mod Formula
-pub mod Coded
-pub mod Shift
-pub mod Laws

@@ -1,9 +1,0 @@
-//! What codes keep of clauses, as a contract.
-
-ghost use Rattle.horizon_formula.specs.Laws.{CodesSayEnough, CodesSayNoMore};
-
-/// The laws of codes. It does nothing.
-pub fn laws()
-    ensures enough { CodesSayEnough }
-    ensures no_more { CodesSayNoMore }
-{}

@@ -1,0 +1,4 @@
+pub mod Resume
+pub mod Seen
+pub mod Held
+pub mod Started

@@ -1,0 +1,3 @@
+pub mod Stopped
+pub mod Taking
+pub mod Hearing

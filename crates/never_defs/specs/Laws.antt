@@ -1,0 +1,37 @@
+-- What sets of clauses and weights are good for: no actions lead to the goal, however many.
+use Rattle.std.specs.Prelude.{ℕ, List, []}
+use Rattle.gt_core.specs.Task.{Task, initial_state}
+use Rattle.gt_core.specs.Execution.{CanRun, run, IsGoal}
+use Rattle.gt_core.specs.Reached.{HoldsWherever}
+use Rattle.never_defs.specs.Sets.{IsForwardSet, IsBackwardSet, AreWeights}
+use Rattle.never_defs.specs.Forward.{IsForwardCertificate, GoalPassesForward}
+use Rattle.never_defs.specs.Backward.{IsBackwardCertificate}
+use Rattle.never_defs.specs.Weights.{AreWeightsCertified}
+
+-- no actions that run one after the other from the initial state reach the goal
+abbrev pub HasNoRun : Task → Type 0
+HasNoRun task = (ks : List ℕ) → CanRun task (initial_state task) ks → IsGoal task (run task (initial_state task) ks) → ⊥
+
+-- what passes the check is such a set, or such weights
+abbrev pub ForwardCertificatesHold : Type 0
+ForwardCertificatesHold = (task : Task) (known : List (ℕ × ℕ)) (clauses : List (List ℕ)) → IsForwardCertificate task known clauses → IsForwardSet task known clauses
+
+abbrev pub BackwardCertificatesHold : Type 0
+BackwardCertificatesHold = (task : Task) (known : List (ℕ × ℕ)) (clauses : List (List ℕ)) → IsBackwardCertificate task known clauses → IsBackwardSet task known clauses
+
+abbrev pub CertifiedWeightsHold : Type 0
+CertifiedWeightsHold = (task : Task) (known : List (ℕ × ℕ)) (weights : List (ℕ × ℕ)) → AreWeightsCertified task known weights → AreWeights task known weights
+
+-- where the known clauses hold in each state that is reached, such a set or such weights leave no run to the goal
+abbrev pub ForwardSetHasNoRun : Type 0
+ForwardSetHasNoRun = (task : Task) (known : List (ℕ × ℕ)) (clauses : List (List ℕ)) → HoldsWherever task known → IsForwardSet task known clauses → HasNoRun task
+
+abbrev pub BackwardSetHasNoRun : Type 0
+BackwardSetHasNoRun = (task : Task) (known : List (ℕ × ℕ)) (clauses : List (List ℕ)) → HoldsWherever task known → IsBackwardSet task known clauses → HasNoRun task
+
+abbrev pub WeightsHaveNoRun : Type 0
+WeightsHaveNoRun = (task : Task) (known : List (ℕ × ℕ)) (weights : List (ℕ × ℕ)) → HoldsWherever task known → AreWeights task known weights → HasNoRun task
+
+-- where the goal is hopeless, or refuted by the known clauses alone, the set without a clause passes the check
+abbrev pub NothingIsNeeded : Type 0
+NothingIsNeeded = (task : Task) (known : List (ℕ × ℕ)) → GoalPassesForward task known [] → IsForwardCertificate task known []

@@ -1,0 +1,5 @@
+pub mod TypeTree
+pub mod Line
+pub mod Walk
+pub mod Variables
+pub mod Follows

@@ -1,0 +1,4 @@
+pub mod Views
+pub mod Bytes
+pub mod Whole
+pub mod WordEnds

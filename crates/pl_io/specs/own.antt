@@ -1,0 +1,4 @@
+pub mod Sent
+pub mod Calls
+pub mod MemShelf
+pub mod MemSink

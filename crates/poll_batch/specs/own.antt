@@ -1,0 +1,4 @@
+pub mod Numbers
+pub mod OnePoll
+pub mod Works
+pub mod Tied

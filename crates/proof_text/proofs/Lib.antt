@@ -1,6 +1,0 @@
-mod Clauses
-mod Cuts
-mod Digits
-mod Lengths
-mod Lines
-mod Spelling

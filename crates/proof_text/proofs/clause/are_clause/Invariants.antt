@@ -1,9 +1,0 @@
-use Rattle.std.proofs.Common.{length}
-use Rattle.proof_text.proofs.Clauses.{StaysClause}
-use Rattle.proof_text.proofs.clause.are_clause.Given as goal
-
-abbrev pub invariant-loop-code : goal.invariant-loop-code
-invariant-loop-code l = StaysClause l.codes l.rest
-
-abbrev pub decreases-loop-code : goal.decreases-loop-code
-decreases-loop-code l = length l.rest

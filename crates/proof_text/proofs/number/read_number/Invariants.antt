@@ -1,9 +1,0 @@
-use Rattle.std.proofs.Common.{length}
-use Rattle.proof_text.proofs.Digits.{HasRead}
-use Rattle.proof_text.proofs.number.read_number.Given as goal
-
-abbrev pub invariant-loop-digit : goal.invariant-loop-digit
-invariant-loop-digit l = HasRead l.bytes l.number l.rest
-
-abbrev pub decreases-loop-digit : goal.decreases-loop-digit
-decreases-loop-digit l = length l.rest

@@ -1,9 +1,0 @@
-use Rattle.std.proofs.Common.{◌≡◌, ◌++◌, [], length}
-use Rattle.proof_text.specs.Reading.{numbered}
-use Rattle.proof_text.proofs.write.push_row.Given as goal
-
-abbrev pub invariant-loop-number : goal.invariant-loop-number
-invariant-loop-number l = l.text.items ++ numbered l.rest [] ≡ l.initial.text.items ++ numbered l.numbers []
-
-abbrev pub decreases-loop-number : goal.decreases-loop-number
-decreases-loop-number l = length l.rest

@@ -1,0 +1,3 @@
+pub mod Assigns
+pub mod Removes
+pub mod Adds

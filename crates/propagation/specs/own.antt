@@ -1,0 +1,11 @@
+pub mod Visit
+pub mod Asks
+pub mod Status
+pub mod Back
+pub mod Pairs
+pub mod Steps
+pub mod Tables
+pub mod Sound
+pub mod Added
+pub mod Latest
+pub mod Given

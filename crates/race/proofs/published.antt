@@ -1,0 +1,4 @@
+pub mod Starts
+pub mod Advances
+pub mod Ends
+pub mod Exhausted

@@ -1,0 +1,3 @@
+pub mod Commands
+pub mod ListReaders
+pub mod Ranges

@@ -1,5 +1,0 @@
-use Rattle.std.proofs.Common.{◌≡◌}
-use Rattle.sample_tasks.proofs.rooms.add_lamp_pairs.Given as goal
-
-abbrev pub invariant-loop-lamp : goal.invariant-loop-lamp
-invariant-loop-lamp l = l.pairs.facts ≡ l.initial.pairs.facts

@@ -1,0 +1,4 @@
+mod Thinning
+pub mod Thin
+pub mod Alike
+pub mod published

@@ -1,0 +1,3 @@
+pub mod PlansLaw
+pub mod TreeLaw
+pub mod published

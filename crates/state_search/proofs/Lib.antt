@@ -1,0 +1,4 @@
+pub mod WalkLaw
+pub mod PathLaw
+pub mod BreadthLaw
+pub mod LeastLaw

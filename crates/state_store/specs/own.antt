@@ -1,0 +1,4 @@
+pub mod Packed
+pub mod Rows
+pub mod Table
+pub mod Kept

@@ -1,6 +1,0 @@
-use Rattle.std.proofs.Common.{◌≡◌, ◌-◌, drop}
-use Rattle.step_template.specs.Sizes.{has_both}
-use Rattle.step_template.proofs.effect_size.has_both.Given as goal
-
-abbrev pub invariant-loop-place : goal.invariant-loop-place
-invariant-loop-place l = has_both l.lits ≡ has_both (drop (l.place - 1) l.lits)

@@ -1,8 +1,0 @@
-use Rattle.std.proofs.Common.{◌≡◌, ◌+◌, ◌*◌, ◌≤◌, drop}
-use Rattle.step_template.specs.Sizes.{preconditions_size}
-use Rattle.step_template.proofs.step_size.preconditions_size.Given as goal
-
-abbrev pub invariant-loop-act : goal.invariant-loop-act
-invariant-loop-act l =
-    (preconditions_size l.task.actions ≡ l.size + preconditions_size (drop l.act-index l.task.actions))
-    × (l.size ≤ 8192 * l.act-index)

@@ -1,0 +1,11 @@
+pub mod Listed
+pub mod Greatest
+pub mod Losses
+pub mod Groups
+pub mod Numbers
+pub mod Plain
+pub mod Index
+pub mod Before
+pub mod First
+pub mod Rounds
+pub mod Harmless

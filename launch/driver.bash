@@ -1,0 +1,61 @@
+# shellcheck shell=bash disable=SC2034,SC2154 # the parts set variables for one another
+# Finds the programs for launch/solve, and runs it. To be read by ./solve and ./plan-by, which have set root.
+. "$root/launch/places.bash"
+use programs commands
+
+# run_driver TOOL WORD..: becomes the driver with these words.
+run_driver() {
+    local tool=$1 planner judge searcher never cache=(-B)
+    shift
+    if [[ ${1-} == --help || ${1-} == -h ]]; then
+        use words
+        tell_help "$tool" "${called%dokyreva}"
+        exit 0
+    fi
+    command -v python3 >/dev/null || { say "there is no command python3: the package python3 has it"; exit 70; }
+    find_places
+    take_programs "$tool"
+    find_cache_of_python
+    exec python3 -I -S "${cache[@]}" "$root/launch/solve" "$tool" "$root" "planner=$planner" "judge=$judge" "search=$searcher" \
+        "never=$never" -- "$@"
+}
+
+# take_programs TOOL: sets planner, judge, searcher and never to programs, or to nothing where there is none. ./solve needs the
+# planner, ./plan-by the judge.
+take_programs() {
+    local name wanted=plan_prog
+    [ "$1" != plan-by ] || wanted=judge_prog
+    planner=${SOLVE_PLANNER-$(program_of plan_prog "$wanted")} || exit
+    judge=${SOLVE_JUDGE-$(program_of judge_prog "$wanted")} || exit
+    searcher=${SOLVE_SEARCH-$(program_for search)}
+    never=${SOLVE_NEVER-$(program_for never)}
+}
+
+# program_of NAME WANTED: its path; it is built where it is the wanted one and nothing else is there.
+program_of() {
+    is_there "$1" || return 0
+    if [ "$1" = "$2" ]; then
+        find_or_build "$1" || return
+        say "this is $what"
+    else
+        find_program "$1" || return 0
+    fi
+    echo "$program"
+}
+
+# program_for COMMAND: the path of the program that answers a command, where there is one.
+program_for() {
+    is_command "$1" && [[ $by == *_prog ]] && find_program "$by" && echo "$program"
+}
+
+# find_cache_of_python: where Python keeps what it has compiled: in a place of this user, or nowhere.
+find_cache_of_python() {
+    local place
+    use keep
+    for place in "${places[@]}"; do
+        if make_place "$place"; then
+            cache=(-X "pycache_prefix=$place/python")
+            return
+        fi
+    done
+}
