@@ -143,7 +143,7 @@ class Sat(Engine):
         elif came.status == 10:
             model = solvers.as_model(came.output, rooms.read_made(proof[0], MODEL)) if way == "minisat" else came.output
             yield from self.take_model(n, model)
-        elif judged is not None and came.why is None and judged[0] in (1, 3) and (came.status == 20 or not judged[1].startswith("; not empty")):
+        elif judged is not None and came.why is None and judged[0] in (1, 3) and (came.status in (20, None) or came.status > 128):
             self.set(n, "rejected", said(judged[1]))
         elif came.status == 20:
             self.hint = max(self.hint, n) if judged is None else self.hint
