@@ -13,7 +13,8 @@ begin_folder() {
     if [ -f "$folder/task/SHA256SUMS" ]; then
         is_of_task domain "$domain" && is_of_task problem "$problem" ||
             wrong "the domain or the problem is another than that with which $folder was begun: take another folder"
-        if [ -n "$judge" ] && [ ! -f "$folder/task/judge" ]; then
+        if { [ -n "$judge" ] && [ ! -f "$folder/task/judge" ]; } || { [ -n "$searcher" ] && [ ! -f "$folder/task/searcher" ]; } ||
+            { [ -n "$never" ] && [ ! -f "$folder/task/never" ]; }; then
             put_task || wrong "the folder $folder cannot be filled"
         elif ! is_unchanged "$folder"; then
             say "a file in $folder/task was changed: all are put there anew"
@@ -23,8 +24,8 @@ begin_folder() {
     else
         put_task || wrong "the folder $folder cannot be filled"
     fi
-    printf 'first=%s\nlast=%s\nbudget=%s\nmemory=%s\nminutes=%s\nsolvers=%s\nseeds=%s\n' "$first" "$last" "$budget" "$memory" \
-        "$minutes" "$solvers" "$seeds" | keep_text "$folder/task/settings" ||
+    printf 'first=%s\nlast=%s\nbudget=%s\nmemory=%s\nminutes=%s\nsolvers=%s\nseeds=%s\nsolves=%s\n' "$first" "$last" "$budget" "$memory" \
+        "$minutes" "$solvers" "$seeds" "$solves" | keep_text "$folder/task/settings" ||
         wrong "the folder $folder cannot be filled"
 }
 
@@ -49,16 +50,18 @@ put_task() {
     local part
     put_copy "$domain" domain && put_copy "$problem" problem && put_copy "$program" planner && put_copy "$self" spread || return
     [ -z "$judge" ] || put_copy "$judge" judge || return
-    for part in spread_jobs spread_solvers solvers nap fresh; do
+    [ -z "$searcher" ] || put_copy "$searcher" searcher || return
+    [ -z "$never" ] || put_copy "$never" never || return
+    for part in spread_jobs spread_any spread_solvers solvers nap fresh; do
         put_copy "$root/launch/$part.bash" "$part.bash" || return
     done
-    (set -o pipefail; cd -- "$folder/task" && sha256sum domain problem planner spread ./*.bash ${judge:+judge} |
+    (set -o pipefail; cd -- "$folder/task" && sha256sum domain problem planner spread ./*.bash ${judge:+judge} ${searcher:+searcher} ${never:+never} |
         keep_text "$folder/task/SHA256SUMS")
 }
 
 # put_copy FILE NAME: what the jobs run or read, under a name of its own.
 put_copy() {
-    keep_text "$folder/task/$2" <"$1" && { [[ $2 != planner && $2 != judge ]] || chmod -- +x "$folder/task/$2"; }
+    keep_text "$folder/task/$2" <"$1" && { [[ ! $2 =~ ^(planner|judge|searcher|never)$ ]] || chmod -- +x "$folder/task/$2"; }
 }
 
 # note_results: the bounds, as all results give them; sets known by horizon to its word. What is known already is not read again.
@@ -77,7 +80,8 @@ note_results() {
 # begin_bounds: those of the results that are there now.
 begin_bounds() {
     known=()
-    rm -f -- "$folder/bounds"
+    rm -f -- "$folder/bounds" "$folder/answered"
+    [ "$solves" = no ] || ! grep -q -s -x -E 'word=(found|none|plan)' "$folder"/h/*/result /dev/null || : >>"$folder/answered"
     note_results
 }
 
@@ -110,6 +114,9 @@ end_refused() {
 left_over() {
     local n seed solver
     wanted=()
+    for n in "${engines[@]}"; do
+        has_result "$folder" "any-$n" || is_needless "$folder" "any-$n" || wanted+=("any-$n")
+    done
     for ((seed = 1; seed <= seeds; seed++)); do
         while read -r -d , solver; do
             for ((n = first; n <= last; n++)); do

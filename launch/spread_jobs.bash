@@ -7,7 +7,7 @@
 # greatest that is refuted: all that a job has to look at while it runs. Each file is written beside its place and then
 # renamed, the result last.
 
-running='' group='' tie=() parent='' solvers='' seeds=1
+running='' group='' tie=() parent='' solvers='' seeds=1 engines=() solves=no runs=planner
 
 # read_settings FOLDER: sets first, last, budget, memory, minutes, and solvers and seeds.
 read_settings() {
@@ -16,6 +16,7 @@ read_settings() {
         [[ ! $line =~ ^(first|last|budget|memory|minutes|seeds)=([0-9]+)$ ]] ||
             printf -v "${BASH_REMATCH[1]}" %s "${BASH_REMATCH[2]}"
         [[ $line != solvers=* ]] || solvers=${line#solvers=}
+        [ "$line" != solves=yes ] || solves=yes
     done <"$1/task/settings"
 }
 
@@ -80,6 +81,8 @@ keep_bounds() {
 
 # is_needless FOLDER N: a lower horizon has a plan, or a higher one is refuted, so this one cannot change the answer.
 is_needless() {
+    [ "$solves" = no ] || ! is_answered "$1" || return 0
+    [[ $2 != any-* ]] || return
     read_bounds "$1"
     [ "$2" -gt "$least_plan" ] || [ "$2" -lt "$most_refuted" ]
 }
@@ -131,7 +134,7 @@ stop_run() {
 run_planner() {
     local folder=$1 n=$2 out=$3 ended=0 limit=$((memory * 1024 * 95 / 100)) until=$((minutes * 60 - 5)) begun=$SECONDS pause=0.02
     shift 3
-    (ulimit -d "$limit"; exec "${tie[@]}" "$folder/task/planner" "$@") >"$out" 2>/dev/null </dev/null 9>&- &
+    (ulimit -d "$limit"; exec "${tie[@]}" "$folder/task/$runs" "$@") >"$out" 2>/dev/null </dev/null 9>&- &
     running=$!
     megabytes=0
     while kill -0 "$running" 2>/dev/null; do
@@ -165,6 +168,11 @@ put_result() {
             printf 'file=%s %s\n' "$file" "$(sha256sum <"$at/$file" | cut -d ' ' -f 1)"
         done
     } | keep_text "$at/result" && rm -f -- "$at/lost" || return
+    case $3 in
+    found | none) : >>"$1/answered" ;;
+    plan) [ "$solves" = no ] || : >>"$1/answered" ;;
+    esac
+    [[ $2 != any-* ]] || return 0
     read_bounds "$1"
     widen_bounds "$2" "$3"
     keep_bounds "$1"
@@ -245,7 +253,9 @@ run_horizons() {
     read_settings "$folder"
     for it in "${@:2}"; do
         read -r n seed solver <<<"$it"
-        if [ -z "$seed" ]; then
+        if [[ $n == any-* ]]; then
+            run_any "$folder" "$n"
+        elif [ -z "$seed" ]; then
             run_horizon "$folder" "$n"
         else
             run_unit "$folder" "$n" "$solver" "$seed"

@@ -16,9 +16,9 @@ read_result() {
     word=missing
     [ -f "$at/result" ] || return 0
     word=$(value_of "$at/result" word)
-    [[ $word =~ ^(refuted|reported|plan|open|limit)$ ]] || wrong "$at/result is not what a job writes"
+    [[ $word =~ ^(refuted|reported|plan|open|limit|found|none|nothing)$ ]] || wrong "$at/result is not what a job writes"
     [ "$(value_of "$at/result" horizon)" = "$2" ] || wrong "$at/result is of another horizon"
-    [[ $word == open || $word == limit ]] || grep -q '^file=' "$at/result" || wrong "$at/result names no file"
+    [[ $word == open || $word == limit || $word == nothing ]] || grep -q '^file=' "$at/result" || wrong "$at/result names no file"
     while read -r name sum; do
         [ "$(sha256sum <"$at/$name" 2>/dev/null)" = "$sum  -" ] || wrong "$at/$name is not the file that its result names"
     done < <(sed -n 's/^file=//p' "$at/result")
@@ -45,6 +45,8 @@ read_results() {
 answer_fault() {
     local said task=$1/task
     fault='' bad=-1
+    any_fault "$1"
+    [ -z "$fault" ] || return
     if [ "$certified" -ge 0 ] && field_of "$1/h/$certified/result" file && [[ $field == proof.* ]]; then
         proof_fault "$1" "$certified" "${field% *}"
         bad=$certified
@@ -70,6 +72,7 @@ answer_fault() {
 set_aside() {
     say "$3: it is set aside, and the horizon is run again"
     mv -f -- "$1/h/$2/result" "$1/h/$2/result.bad"
+    rm -f -- "$1/answered"
 }
 
 # mend_results FOLDER: sets aside each result that has not the form or the files that it names.
@@ -151,6 +154,7 @@ tell_answer() {
     if [ "$found" -gt 0 ] && [ "$certified" = $((found - 1)) ]; then
         echo "$found is the least number of steps."
     fi
+    [ "$ends" = 0 ] || tell_any "$1"
 }
 
 # lost_status FOLDER: where horizons that matter were lost, why: 8 for memory, 14 for time, 70 for all else; otherwise nothing.

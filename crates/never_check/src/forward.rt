@@ -28,6 +28,7 @@ use gt_core::task::Task;
 use std::alloc::Global;
 
 /// What comes of the check of a forward set.
+#[derive(Drop)]
 pub enum ForwardVerdict {
     /// It passes.
     Accepted,
