@@ -32,6 +32,19 @@ def clauses_of(domain, problem, horizon):
                 break
     raise Wrong(f"there is no formula of horizon {horizon}")
 
+def line_of(words):
+    """A line of LRAT: its id, its literals and its hints; where it takes clauses away, no literals and their ids. Raises ValueError where it
+    is no such line."""
+    if words[1:2] == ["d"]:
+        name, literals, rest = int(words[0]), None, [int(it) for it in words[2:]]
+    else:
+        name, *rest = map(int, words)
+        end = rest.index(0)
+        literals, rest = rest[:end], rest[end + 1:] or [0]
+    if rest[-1:] != [0]:
+        raise ValueError
+    return name, literals, rest[:-1]
+
 def lines_to_lrat(lines, count):
     """The lines of LRAT for those of a certificate, behind the first, over so many clauses."""
     last = count
@@ -58,11 +71,10 @@ def lines_to_certificate(lines, count):
         if len(words) > 1 and words[1] == "d" or not words:
             continue
         try:
-            name, *rest = map(int, words)
-            end = rest.index(0)
-            codes = sorted(code_of(it) for it in rest[:end])
-            hints = [it - 1 if it <= count else numbers[it] for it in rest[end + 1:-1]]
-            if rest[-1] or min(hints, default=0) < 0:
+            name, literals, named = line_of(words)
+            codes = sorted(map(code_of, literals))
+            hints = [it - 1 if it <= count else numbers[it] for it in named]
+            if min(hints, default=0) < 0:
                 raise ValueError
         except (KeyError, ValueError):
             raise Wrong(f"line {at} is none of a proof by reverse unit propagation in LRAT") from None

@@ -36,6 +36,11 @@ class Place:
             while self.last + 1 < len(lines) and lines[self.last] != indent + "}":
                 self.last += 1
 
+    def path(self):
+        """The path of its module, or where that is the root its own."""
+        module = re.sub(r"/?(lib|main|mod)$", "", self.file.removeprefix("src/").removesuffix(".rt"))
+        return module.replace("/", "::") or self.name
+
     def is_of(self, file, line):
         """Whether what is told of a line of a file of src/ or proofs/ is of this function."""
         if not file.startswith("proofs/"):

@@ -7,7 +7,7 @@ from variants import Module, Program, compiled, linked, same_numbers
 from wrong_bodies import ABSENT
 
 PARTS = 4
-# So many modules are made at once.
+# So many modules are made at once, at most.
 AT_ONCE = 2
 REFUSED = re.compile(r"crates/(\w+)/(src/[\w/]+\.rt):(\d+):\d+: error")
 
@@ -142,9 +142,9 @@ def refuses(key, edits, said):
                     return True
     return False
 
-def make(bodies, folder):
-    """Makes the program of some bodies in a folder."""
-    with concurrent.futures.ThreadPoolExecutor(AT_ONCE) as pool:
+def make(bodies, folder, jobs):
+    """Makes the program of some bodies in a folder, by so many jobs."""
+    with concurrent.futures.ThreadPoolExecutor(min(jobs, AT_ONCE)) as pool:
         right, listed = pool.submit(built, {}), batches(bodies)
         begun = [pool.submit(built, it) for it in listed]
         making = Making(right.result())

@@ -16,9 +16,11 @@ HasNoRun task = (ks : List ℕ) → CanRun task (initial_state task) ks → IsGo
 abbrev pub ForwardCertificatesHold : Type 0
 ForwardCertificatesHold = (task : Task) (known : List (ℕ × ℕ)) (clauses : List (List ℕ)) → IsForwardCertificate task known clauses → IsForwardSet task known clauses
 
+-- the same of a set that is read backward
 abbrev pub BackwardCertificatesHold : Type 0
 BackwardCertificatesHold = (task : Task) (known : List (ℕ × ℕ)) (clauses : List (List ℕ)) → IsBackwardCertificate task known clauses → IsBackwardSet task known clauses
 
+-- the same of weights
 abbrev pub CertifiedWeightsHold : Type 0
 CertifiedWeightsHold = (task : Task) (known : List (ℕ × ℕ)) (weights : List (ℕ × ℕ)) → AreWeightsCertified task known weights → AreWeights task known weights
 
@@ -26,9 +28,11 @@ CertifiedWeightsHold = (task : Task) (known : List (ℕ × ℕ)) (weights : List
 abbrev pub ForwardSetHasNoRun : Type 0
 ForwardSetHasNoRun = (task : Task) (known : List (ℕ × ℕ)) (clauses : List (List ℕ)) → HoldsWherever task known → IsForwardSet task known clauses → HasNoRun task
 
+-- the same of a set that is read backward
 abbrev pub BackwardSetHasNoRun : Type 0
 BackwardSetHasNoRun = (task : Task) (known : List (ℕ × ℕ)) (clauses : List (List ℕ)) → HoldsWherever task known → IsBackwardSet task known clauses → HasNoRun task
 
+-- the same of weights
 abbrev pub WeightsHaveNoRun : Type 0
 WeightsHaveNoRun = (task : Task) (known : List (ℕ × ℕ)) (weights : List (ℕ × ℕ)) → HoldsWherever task known → AreWeights task known weights → HasNoRun task
 

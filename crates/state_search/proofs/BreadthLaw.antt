@@ -8,20 +8,10 @@ use Rattle.gt_core.specs.Task.{Task}
 use Rattle.gt_core.specs.Execution.{Runs, IsGoal, next_values}
 use Rattle.state_store.specs.Store.{Stored, with_state}
 use Rattle.state_store.proofs.published.PushedLaw.{pushed_at, pushed_before, pushed_last}
-use Rattle.search_laws.specs.Search.{IsListed, AreDepths, IsClosedList}
-use Rattle.state_search.specs.own.Walk.{IsWalk}
-use Rattle.state_search.specs.own.Breadth.{AreFrom, IsPassed, LeadsNear, IsBreadth, IsFound}
-use Rattle.state_search.proofs.WalkLaw.{walk_push, number_before, number_last}
-
--- what is passed with one action more: what was passed, or that action
-one_more : (number act k a : ℕ) → IsPassed number (act + 1) k a → IsPassed number act k a ⊎ ((k ≡ number) × (a ≡ act))
-one_more number act k a (inl below) = inl (inl below)
-one_more number act k a (inr h) =
-    let lt = h.1 in
-    elim (cases_lt a act) [ inl less ↦ inl (inr (h.0, less)) | inr le ↦ inr (h.0, omega (arith, le, lt)) ]
-
-pub same_state : (states : List (List Bool)) (k : ℕ) (s t : List Bool) → slice_get states k ≡ Some s → slice_get states k ≡ Some t → s ≡ t
-same_state states k s t a b = let o : Some s ≡ Some t = sym a ∙ b in cc
+use Rattle.search_laws.specs.Search.{IsListed, AreDepths}
+use Rattle.state_search.specs.own.Walk.{IsWalk, IsPassed}
+use Rattle.state_search.specs.own.Breadth.{AreFrom, LeadsNear, IsBreadth, IsFound}
+use Rattle.state_search.proofs.WalkLaw.{walk_push, one_more, same_state, earlier_passed, number_before, number_last}
 
 module _ (task : Task) (st : Stored) (number act : ℕ) (source : List Bool) (breadth : IsBreadth task st number act) (at : slice_get st.states number ≡ Some source) where
   below : number < length st.states
@@ -250,25 +240,9 @@ module _ (task : Task) (st : Stored) (number act : ℕ) (source : List Bool) (br
     from = breadth.from;
     rising = breadth.rising;
     near = λ k lt number_lt. (let le = breadth.near k lt below in let r = breadth.rising number (number + 1) (omega arith) number_lt in omega (arith, le, r));
-    closed = λ k s a is there runs. breadth.closed k s a (earlier k a is runs.action) there runs;
+    closed = λ k s a is there runs. breadth.closed k s a (earlier_passed number act (length task.actions) k a is runs.action all) there runs;
     no_goal = breadth.no_goal;
   }
-    where
-      earlier : (k a : ℕ) → IsPassed (number + 1) 0 k a → a < length task.actions → IsPassed number act k a
-      earlier k a (inl lt) within = elim (cases_lt k number) [ inl h ↦ inl h | inr le ↦ inr (omega (arith, lt, le), omega (arith, within, all)) ]
-      earlier k a (inr h) within = absurd (let l = h.1 in omega (arith, l))
-
--- all states swept: a closed list
-pub closed_list : (task : Task) (st : Stored) (number : ℕ) → IsBreadth task st number 0 → length st.states ≤ number → IsClosedList task st.states
-closed_list task st number breadth all = record {
-  initial = (0, breadth.walk.tree.first);
-  next = λ s a listed runs. (
-      let lt = slice_get_within st.states listed.0 s listed.1 in
-      let leads = breadth.closed listed.0 s a (inl (omega (arith, lt, all))) listed.1 runs in
-      (leads.0, leads.1)
-      );
-  no_goal = λ s listed goal. breadth.no_goal listed.0 s listed.1 goal;
-}
 
 -- a store with the initial state alone, which is no goal
 pub breadth_first : (task : Task) (st : Stored) → IsWalk task st → st.states ≡ task.initial ∷ [] → st.parents ≡ 0 ∷ [] → (IsGoal task (state_of task.initial) → ⊥) → IsBreadth task st 0 0

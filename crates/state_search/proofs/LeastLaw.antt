@@ -13,11 +13,13 @@ use Rattle.search_laws.specs.Search.{ClosedListIsNoPlan, DepthsHaveNoShorter}
 use Rattle.search_laws.specs.Tree.{TreeIsReached}
 use Rattle.state_search.specs.Answer.{AreEntered, HasNoRun, HasNoShorter}
 use Rattle.state_search.specs.own.Walk.{IsWalk}
-use Rattle.state_search.specs.own.Breadth.{AreFrom, IsBreadth, IsFound}
-use Rattle.state_search.proofs.BreadthLaw.{closed_list, same_state}
+use Rattle.state_search.specs.own.Breadth.{AreFrom, IsFound}
+use Rattle.state_search.specs.own.Closing.{IsClosing, IsGoalLast}
+use Rattle.state_search.proofs.WalkLaw.{same_state}
+use Rattle.state_search.proofs.ClosingLaw.{closed_list}
 
 -- the state that was entered last is a goal
-pub last_goal : (task : Task) (st : Stored) (last : ℕ) → IsFound task st → last ≡ length st.states - 1 → (s : List Bool) → slice_get st.states last ≡ Some s → IsGoal task (state_of s)
+pub last_goal : (task : Task) (st : Stored) (last : ℕ) → IsGoalLast task st → last ≡ length st.states - 1 → (s : List Bool) → slice_get st.states last ≡ Some s → IsGoal task (state_of s)
 last_goal task st last found is s at =
     let e : last ≡ found.last = omega (arith, is, found.is_last) in
     subst (λ (t : List Bool). IsGoal task (state_of t)) (same_state st.states found.last found.state s found.at (ap (slice_get st.states) (sym e) ∙ at)) found.goal
@@ -33,8 +35,8 @@ none_shorter task st last n lawful law found is long ks run =
     ]
 
 -- where all states were swept no actions are a run to the goal
-pub none_at_all : (task : Task) (st : Stored) (number : ℕ) → is_task task ≡ true → ClosedListIsNoPlan → IsBreadth task st number 0 → length st.states ≤ number → HasNoRun task
-none_at_all task st number lawful law breadth all ks run = law task st.states lawful (closed_list task st number breadth all) ks run.runs run.reaches
+pub none_at_all : (task : Task) (st : Stored) (number : ℕ) → is_task task ≡ true → ClosedListIsNoPlan → IsClosing task st number 0 → length st.states ≤ number → HasNoRun task
+none_at_all task st number lawful law closing all ks run = law task st.states lawful (closed_list task st number closing all) ks run.runs run.reaches
 
 pub none_hoped : (task : Task) → task.hopeless ≡ true → HasNoRun task
 none_hoped task hopeless ks run = both_ways task.hopeless run.reaches.hopeful hopeless

@@ -1,4 +1,5 @@
 pub mod WalkLaw
+pub mod ClosingLaw
 pub mod PathLaw
 pub mod BreadthLaw
 pub mod LeastLaw

@@ -1,6 +1,7 @@
 -- A walk with one more state.
-use Rattle.std.proofs.Common.{arith, ◌≡◌, ℕ, suc, ◌<◌, List, [], ◌∷◌, ◌++◌, Bool, length, length-append, sym, ap, ◌∙◌, subst, Some, ◌⊎◌, inl, inr}
+use Rattle.std.proofs.Common.{arith, ◌≡◌, ℕ, suc, ◌+◌, ◌<◌, ◌≤◌, List, [], ◌∷◌, ◌++◌, Bool, length, length-append, sym, ap, ◌∙◌, subst, Some, ◌⊎◌, inl, inr}
 use Rattle.std.specs.Prelude.{slice_get, slice_index}
+use Rattle.std.proofs.lemmas.Bool.{cases_lt}
 use Rattle.std.proofs.lemmas.Option.{slice_get_within}
 use Rattle.std.proofs.Math.ListN.{get_or-append}
 use Rattle.std.proofs.Math.Seq.{get_or-append_seam}
@@ -10,7 +11,22 @@ use Rattle.gt_core.specs.Execution.{Runs, next_values}
 use Rattle.state_store.specs.Store.{Stored, with_state}
 use Rattle.state_store.proofs.published.PushedLaw.{pushed_at, pushed_before}
 use Rattle.search_laws.specs.Tree.{IsAfter}
-use Rattle.state_search.specs.own.Walk.{IsWalk}
+use Rattle.state_search.specs.own.Walk.{IsWalk, IsPassed}
+
+-- what is passed with one action more: what was passed, or that action
+pub one_more : (number act k a : ℕ) → IsPassed number (act + 1) k a → IsPassed number act k a ⊎ ((k ≡ number) × (a ≡ act))
+one_more number act k a (inl below) = inl (inl below)
+one_more number act k a (inr h) =
+    let lt = h.1 in
+    elim (cases_lt a act) [ inl less ↦ inl (inr (h.0, less)) | inr le ↦ inr (h.0, omega (arith, le, lt)) ]
+
+pub same_state : (states : List (List Bool)) (k : ℕ) (s t : List Bool) → slice_get states k ≡ Some s → slice_get states k ≡ Some t → s ≡ t
+same_state states k s t a b = let o : Some s ≡ Some t = sym a ∙ b in cc
+
+-- what is passed with the state, where all its actions were tried
+pub earlier_passed : (number act actions k a : ℕ) → IsPassed (number + 1) 0 k a → a < actions → actions ≤ act → IsPassed number act k a
+earlier_passed number act actions k a (inl lt) within all = elim (cases_lt k number) [ inl h ↦ inl h | inr le ↦ inr (omega (arith, lt, le), omega (arith, within, all)) ]
+earlier_passed number act actions k a (inr h) within all = absurd (let l = h.1 in omega (arith, l))
 
 -- a number of a list with one more, before the last one and as the last one
 pub number_before : (xs : List ℕ) (x k : ℕ) → k < length xs → slice_index (xs ++ x ∷ []) k ≡ slice_index xs k
@@ -66,3 +82,7 @@ walk_first task st facts states parents actions = record {
     next = λ k s at. (let none : slice_get (task.initial ∷ []) (suc k) ≡ Some s = ap (λ (xs : List (List Bool)). slice_get xs (suc k)) (sym states) ∙ at in absurd (cc));
   };
 }
+
+-- a stored state stays where one more is entered
+pub at_entered : (task : Task) (st : Stored) (number act : ℕ) (source : List Bool) → slice_get st.states number ≡ Some source → (after : Stored) → after ≡ with_state st (next_values task (state_of source) act) number act → slice_get after.states number ≡ Some source
+at_entered task st number act source at after same = ap (λ (t : Stored). slice_get t.states number) same ∙ pushed_before st.states (next_values task (state_of source) act) source number at

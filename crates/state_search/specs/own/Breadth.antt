@@ -1,23 +1,19 @@
 -- A walk that goes breadth first: states in the order of their depths.
-use Rattle.std.specs.Prelude.{◌≡◌, ℕ, suc, ◌+◌, ◌<◌, ◌≤◌, ◌⊎◌, List, Bool, Some, length, slice_get, slice_index}
+use Rattle.std.specs.Prelude.{◌≡◌, ℕ, suc, ◌+◌, ◌<◌, ◌≤◌, List, Bool, Some, length, slice_get, slice_index}
 use Rattle.gt_core.specs.Literal.{state_of}
 use Rattle.gt_core.specs.Task.{Task}
 use Rattle.gt_core.specs.Execution.{Runs, IsGoal, next_values}
 use Rattle.state_store.specs.Store.{Stored}
 use Rattle.search_laws.specs.Search.{AreDepths}
-use Rattle.state_search.specs.own.Walk.{IsWalk, HasNoGoal}
-use Rattle.state_search.specs.declared.least.Swept.{Swept}
-use Rattle.state_search.specs.declared.least.Swept.TheVariants.{Closed, Goal, Full}
+use Rattle.state_search.specs.own.Walk.{IsWalk, HasNoGoal, IsPassed}
+use Rattle.state_search.specs.declared.sweep.Swept.{Swept}
+use Rattle.state_search.specs.declared.sweep.Swept.TheVariants.{Closed, Goal, Full}
 
 -- the depth of each stored state: none of the first, one more than its parent's of each other one
 pub record AreFrom (parents depths : List ℕ) : Type 0 where
   pub long : length depths ≡ length parents
   pub first : slice_index depths 0 ≡ 0
   pub next : (k : ℕ) → suc k < length parents → slice_index depths (suc k) ≡ slice_index depths (slice_index parents (suc k)) + 1
-
--- an action of a state that is closed up to an action of one
-abbrev pub IsPassed : ℕ → ℕ → ℕ → ℕ → Type 0
-IsPassed number act k a = (k < number) ⊎ ((k ≡ number) × (a < act))
 
 -- the state after an action is stored, one deeper at most
 abbrev pub LeadsNear : Task → Stored → List ℕ → ℕ → List Bool → ℕ → Type 0

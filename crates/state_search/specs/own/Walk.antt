@@ -1,5 +1,5 @@
 -- What a walk keeps.
-use Rattle.std.specs.Prelude.{◌≡◌, ℕ, List, Bool, Some, length, slice_get}
+use Rattle.std.specs.Prelude.{◌≡◌, ℕ, List, Bool, Some, length, slice_get, ◌<◌, ◌⊎◌}
 use Rattle.gt_core.specs.Literal.{state_of}
 use Rattle.gt_core.specs.Task.{Task}
 use Rattle.gt_core.specs.Execution.{Runs, IsGoal, next_values}
@@ -27,3 +27,7 @@ IsProposed task old new parent s a Unable = (new ≡ old) × (Runs task (state_o
 IsProposed task old new parent s a Known = (new ≡ old) × IsListed old.states (next_values task (state_of s) a)
 IsProposed task old new parent s a Entered = Runs task (state_of s) a × (new ≡ with_state old (next_values task (state_of s) a) parent a)
 IsProposed task old new parent s a Full = (new ≡ old) × (length old.states ≡ old.most)
+
+-- an action of a state that is closed up to an action of one
+abbrev pub IsPassed : ℕ → ℕ → ℕ → ℕ → Type 0
+IsPassed number act k a = (k < number) ⊎ ((k ≡ number) × (a < act))

@@ -9,6 +9,7 @@ use Rattle.state_store.specs.declared.table.Spot.TheVariants.{Known, Alone, Besi
 abbrev pub mixed : ℕ → ℕ → ℕ
 mixed hash word = let scattered = (hash + word) % 2 ^ 64 * 11400714819323198485 % 2 ^ 64 in (scattered + scattered / 2 ^ 32) % 2 ^ 64
 
+-- the hash of a row of words, going on from this one
 abbrev pub hash_from : ℕ → List ℕ → ℕ
 hash_from hash [] = hash
 hash_from hash (word ∷ words) = hash_from (mixed hash word) words
@@ -23,6 +24,7 @@ pub record Trees : Type 0 where
   pub heads : List ℕ
   pub nodes : List Node
 
+-- the node with this number; an empty one past the last
 abbrev pub node_at : List Node → ℕ → Node
 node_at nodes k = slice_index_or nodes k (record { bit = 0; zero = 0; one = 0 })
 
@@ -52,6 +54,7 @@ abbrev pub GoesBy : List Node → List ℕ → ℕ → List ℕ → ℕ → ℕ 
 GoesBy nodes row k [] last leaf = (last ≡ k) × (link nodes row k ≡ leaf) × (leaf ≤ k)
 GoesBy nodes row k (m ∷ path) last leaf = (link nodes row k ≡ m) × (k < m) × GoesBy nodes row m path last leaf
 
+-- some way of a row from a node ends at this node and leads to this row
 abbrev pub Ends : List Node → List ℕ → ℕ → ℕ → ℕ → Type 0
 Ends nodes row k last leaf = (path : List ℕ) × GoesBy nodes row k path last leaf
 

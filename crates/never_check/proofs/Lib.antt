@@ -1,0 +1,11 @@
+pub mod Placed
+pub mod LeftLaw
+pub mod Grown
+pub mod Looking
+pub mod KnownLaw
+pub mod Following
+pub mod Beginning
+pub mod Settling
+pub mod Casing
+pub mod Forwarding
+pub mod Pairing

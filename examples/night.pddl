@@ -1,0 +1,8 @@
+(define (problem night) (:domain warehouse)
+  (:objects r1 r2 - robot p1 p2 p3 p4 - pallet dock1 dock2 aisle1 aisle2 aisle3 shelf1 shelf2 shelf3 - place)
+  (:init (way dock1 aisle1) (way aisle1 dock1) (way dock2 aisle3) (way aisle3 dock2) (way aisle1 aisle2) (way aisle2 aisle1)
+         (way aisle2 aisle3) (way aisle3 aisle2) (way aisle1 shelf1) (way shelf1 aisle1) (way aisle2 shelf2) (way shelf2 aisle2)
+         (way aisle3 shelf3) (way shelf3 aisle3)
+         (at r1 dock1) (at r2 dock2) (free aisle1) (free aisle2) (free aisle3) (free shelf1) (free shelf2) (free shelf3)
+         (empty r1) (empty r2) (lies p1 dock1) (lies p2 dock1) (lies p3 dock2) (lies p4 shelf3))
+  (:goal (and (lies p1 shelf3) (lies p2 shelf2) (lies p3 shelf1) (lies p4 dock1))))

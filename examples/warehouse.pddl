@@ -1,0 +1,12 @@
+; Two robots carry four pallets between the docks and the shelves of a warehouse.
+(define (domain warehouse)
+  (:requirements :strips :typing)
+  (:types robot pallet place)
+  (:predicates (way ?a ?b - place) (at ?r - robot ?a - place) (free ?a - place) (lies ?p - pallet ?a - place)
+               (carries ?r - robot ?p - pallet) (empty ?r - robot))
+  (:action drive :parameters (?r - robot ?a ?b - place)
+    :precondition (and (way ?a ?b) (at ?r ?a) (free ?b)) :effect (and (at ?r ?b) (not (at ?r ?a)) (free ?a) (not (free ?b))))
+  (:action lift :parameters (?r - robot ?p - pallet ?a - place)
+    :precondition (and (at ?r ?a) (lies ?p ?a) (empty ?r)) :effect (and (carries ?r ?p) (not (lies ?p ?a)) (not (empty ?r))))
+  (:action lower :parameters (?r - robot ?p - pallet ?a - place)
+    :precondition (and (at ?r ?a) (carries ?r ?p)) :effect (and (lies ?p ?a) (empty ?r) (not (carries ?r ?p)))))

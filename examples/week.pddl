@@ -1,0 +1,5 @@
+(define (problem week) (:domain shifts)
+  (:objects ann bob cleo - nurse mon tue wed thu fri sat sun - night)
+  (:init (first mon) (next mon tue) (next tue wed) (next wed thu) (next thu fri) (next fri sat) (next sat sun)
+         (ill ann mon) (ill bob wed) (ill cleo fri))
+  (:goal (and (done sun) (took cleo tue) (took ann sun))))
