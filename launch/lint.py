@@ -7,8 +7,8 @@ The variable DOKYREVA_PROGRAM is the path of the planner, whose `ground` tells w
 
 Warned of are: a problem of another domain; an object that stands twice; an atom in :init or :goal whose objects have other
 types than its predicate declares, and one in an action whose terms no object can fit; an empty :goal; a goal that no action
-can make true; an action that can never be executed; a predicate that is never used, or that is asked for and never true. A
-missing :goal is a refusal, of which a warning is printed too. Past a limit of the planner what is reached is not known, and
+can make true; an action that can never be executed; a predicate that is never used, or that is asked for and never true; an
+effect that adds and deletes one atom; a parameter that nothing uses; a requirement that there is nowhere in PDDL. A missing :goal is a refusal, of which a warning is printed too. Past a limit of the planner what is reached is not known, and
 only what the texts tell is warned of.
 
 Statuses: 0 no warning; 1 some; 3, 5 the planner refuses a file or cannot read it, and its line is printed; 4 a file is too
@@ -17,7 +17,16 @@ long; 7 the words are not taken; 70 the planner does not run. With --quiet only 
 import sys
 
 sys.dont_write_bytecode = True
+from messages.text import meant
 from pddl import Action, File, Ground, Kinds, Literal, NoTree, listed, literals, typed
+
+
+REQUIREMENTS = frozenset(
+    ":strips :typing :negative-preconditions :disjunctive-preconditions :equality :existential-preconditions "
+    ":universal-preconditions :quantified-preconditions :conditional-effects :fluents :numeric-fluents :object-fluents :adl "
+    ":durative-actions :duration-inequalities :continuous-effects :derived-predicates :timed-initial-literals :preferences "
+    ":constraints :action-costs :goal-utilities".split()
+)
 
 
 class Task(Kinds):
@@ -128,9 +137,37 @@ def of_actions(task, ground):
             yield task.domain, at.at, f"the predicate {name} is asked for, and never true: {why}"
 
 
+def of_requirements(task):
+    """Warnings of requirements that are misspelt."""
+    for file in (task.domain, task.problem):
+        for it in (word for section in file.sections(":requirements") for word in section.words()[1:]):
+            if it.word not in REQUIREMENTS:
+                yield file, it.at, f"PDDL has no requirement {it.word}{meant(it.word, REQUIREMENTS, 'did you mean {}?')}"
+
+
+def of_effects(task):
+    """Warnings of effects that add and delete one atom, and of parameters that nothing uses."""
+    for action in task.actions:
+        gone = {kind_of(it) for it in action.deletes}
+        for it in action.adds:
+            if kind_of(it) in gone:
+                yield task.domain, it.atom.at, f"the action {action.name.word} deletes and adds {it.atom.text()}: it is true then"
+        used = {term.word for it in action.conditions + action.adds + action.deletes for term in it.atom.items[1:]}
+        for it, _ in action.parameters:
+            if it.word not in used:
+                yield task.domain, it.at, f"nothing uses the parameter {it.word} of {action.name.word}: each object makes another call"
+
+
+def kind_of(effect):
+    """What an effect is about: its atom, the variables of its forall, and its conditions."""
+    inner = tuple(sorted((name, kind) for it in effect.scope.maps[:-1] for name, kind in it.items()))
+    return effect.atom.text(), inner, tuple((it.atom.text(), it.wanted) for it in effect.under)
+
+
 def warnings(task, ground):
     """All warnings as lines, by file and place."""
-    found = [*of_names(task), *of_types(task), *of_goal(task, ground), *of_actions(task, ground)]
+    found = [*of_names(task), *of_types(task), *of_goal(task, ground), *of_actions(task, ground), *of_effects(task)]
+    found += of_requirements(task)
     found.sort(key=lambda it: (it[0] is task.problem, it[1]))
     return [f"{file.place(at)}: warning: {text}" for file, at, text in found]
 

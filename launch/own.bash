@@ -27,11 +27,11 @@ take_own() {
 set_own() {
     case $1 in
     --memory)
-        [ -z "$memory" ] && is_count "$2" 16 100000000 || refuse_own "--memory takes megabytes once, 16 to 100000000"
+        take_count "$memory" "$2" "$1" megabytes
         memory=$2
         ;;
     --seconds)
-        [ -z "$seconds" ] && is_count "$2" 1 10000000 || refuse_own "--seconds takes seconds once, 1 to 10000000"
+        take_count "$seconds" "$2" "$1" seconds
         seconds=$2
         ;;
     --plan-file)
@@ -43,9 +43,14 @@ set_own() {
     esac
 }
 
-# is_count WORD LEAST MOST
-is_count() {
-    [[ $1 =~ ^[1-9][0-9]{0,8}$ ]] && [ "$1" -ge "$2" ] && [ "$1" -le "$3" ]
+# take_count BEFORE WORD OPTION UNITS: ends with 7 where the option stood before, or the word is none of the numbers that may stand.
+take_count() {
+    local name least most
+    while read -r name least _ most _; do
+        [ "$name" != "$3" ] || break
+    done <"$root/launch/help/options.txt"
+    [[ -z $1 && $2 =~ ^[1-9][0-9]{0,8}$ ]] && [ "$2" -ge "$least" ] && [ "$2" -le "$most" ] && return
+    refuse_own "$3 takes $4 once, $least to $most, and not '$2'"
 }
 
 refuse_own() {

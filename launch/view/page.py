@@ -203,6 +203,9 @@ def section(part, number, is_batch, changes):
         lines.append(f"<p>Generated: {part.generated[0]} {part.generated[1]}.</p>")
     lines.append(f'<p class="end">{escaped(tell_end(part))}</p>')
     lines += [f"<p>{escaped(it)}</p>" for it in tell_more(part)]
+    if part.notes:
+        notes = "\n".join(map(escaped, part.notes))
+        lines += ["<h3>Comments</h3>", "<p>Nothing of them is checked here.</p>", f"<pre>{notes}</pre>"]
     if part.horizons:
         lines += horizons(part)
     if part.steps:

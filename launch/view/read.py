@@ -1,4 +1,5 @@
-"""Reports of the planner, read line by line. Exactly what it prints is taken."""
+"""Reports of the planner, read line by line. Exactly what it prints is taken. Reports of scripts that drive it, and plan files, are
+calls among comments, of which nothing follows by itself."""
 import re
 
 NUMBER = r"(0|[1-9][0-9]*)"
@@ -31,6 +32,8 @@ ANSWERS = {
     "read fault": re.compile(rf"; read fault {FILE}\Z"),
     "usage": re.compile(r"; usage: [ -~]+\Z"),
 }
+DRIVER = re.compile(r"; known: (.+)\Z")
+PLANNERS = re.compile(r"; (horizon [0-9]+ [a-z]+ conflicts|conflicts|problem|generated) |horizon [0-9]")
 OF_PROBLEM = ("refused", "limit file", "limit", "limit literals")
 MOST_PARTS = 16
 
@@ -77,6 +80,7 @@ class Part:
         self.spent = self.budget = None
         self.end = end
         self.steps = None
+        self.notes = []
 
 
 class Certificate:
@@ -209,9 +213,34 @@ def read_certificate(lines):
     return Report([], certificate=Certificate(horizon, entries))
 
 
-def read_report(text):
-    """The report that a text is."""
+def read_calls(lines):
+    """The part that a plan file is: its calls, each a step or parted by comments that begin steps, and its other comments."""
+    part, known, at = Part(), None, 0
+    part.steps, has_steps = [], any(STEP.match(line) for line in lines.lines)
+    for at, line in enumerate(lines.lines):
+        call, driver = CALL.match(line.strip()), DRIVER.match(line)
+        if call and not has_steps or STEP.match(line):
+            part.steps.append([])
+        if call and part.steps:
+            part.steps[-1].append(call[1].lower().split(" "))
+        elif driver:
+            known = driver[1]
+        elif line.startswith(";") and not STEP.match(line):
+            part.notes.append(line.lstrip("; "))
+        elif line.strip() and not STEP.match(line):
+            lines.at = at
+            lines.fail("it should be a call or a comment")
+    part.end = ("calls", len(part.steps), sum(map(len, part.steps)), known)
+    part.steps = part.steps or None
+    return Report([part])
+
+
+def read_report(text, is_task=False):
+    """The report that a text is; of a task that is there, also a plan file."""
     lines = Lines(text)
+    is_planners = not lines.lines or PLANNERS.match(lines.lines[0]) or answer(lines.lines[0])
+    if not is_planners and (is_task or any(DRIVER.match(it) for it in lines.lines[-2:])):
+        return read_calls(lines)
     first = lines.lines[0] if lines.more() else ""
     if PROBLEM.match(first):
         return read_batch(lines)

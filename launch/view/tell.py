@@ -58,6 +58,8 @@ def tell_more(part):
 def tell_answer(end):
     """An answer of one line in sentences, of which the first says how it ended."""
     kind = end[0]
+    if kind == "calls":
+        return tell_calls(*end[1:])
     if kind in SENTENCES:
         return SENTENCES[kind]
     if kind == "blocked":
@@ -74,6 +76,13 @@ def tell_answer(end):
     if kind == "read fault":
         return f"The {FILES[end[1]]} could not be read.", "Nothing is known of it."
     return tell_limit(end)
+
+
+def tell_calls(steps, actions, known):
+    """A plan file, or a report of a script that drives the planner: what it says is known."""
+    first = f"A plan file with {count(actions, 'call')}." if actions or not known else "No plan is told."
+    told = f"It says: {known}." if known else "It says nothing of horizons."
+    return first, told
 
 
 def tell_accepted(horizon, entries):

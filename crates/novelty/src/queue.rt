@@ -76,4 +76,16 @@ impl Queue {
         }
         None
     }
+
+    /// The first number of the least key that has one, which stays.
+    pub fn first(&mut self) -> Option<u32> {
+        for key in self.low..self.firsts.len() {
+            let number = *self.firsts.get(key)?;
+            if number != NONE {
+                return Some(number);
+            }
+            self.low = key;
+        }
+        None
+    }
 }

@@ -2,8 +2,9 @@
 //!
 //! Each row brings a node with its own number. A node tests a bit, and has a link for each of its values: a number above its own
 //! is that of the node where the way goes on, any other one that of the row where it ends. A row that ends beside another one gets
-//! its node there, with a bit at which the two differ. No bit is tested twice on a way, so that it has no more nodes than a row
-//! has bits, however many hashes are equal.
+//! its node there, with a bit at which the two differ. But for the first node of a bucket, no bit is tested twice on a way, since two
+//! rows that came the same way have the same values there: so a way has at most one node more than a row has bits, however many
+//! hashes are equal. (No clause says this of the time.)
 
 ghost use Rattle.std.specs.Prelude.{◌≡◌, ℕ, ◌+◌, ◌*◌, ◌≤◌, ◌<◌, ◌++◌, ◌∷◌, [], Some, length, slice_get, slice_set, replicate, List, IfOk, MatchOption};
 ghost use Rattle.bit_sets.specs.Rows.{row_has, word_has};
