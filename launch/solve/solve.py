@@ -31,6 +31,8 @@ def read_words(root, words):
 
 def find_others(call, given):
     """The outside programs: those that are named have to be there, a solver that is not named may be."""
+    if not call.planner:
+        raise solvers.NoSolver("there is no planner to check plans")
     there = {"plan"} | {it for it in ("search", "never") if getattr(call, {"search": "searcher", "never": "judge_of_never"}[it])}
     if given["planner"]:
         call.planner_words = options.command(given["planner"], call.path)
