@@ -2,6 +2,7 @@ use Rattle.std.specs.Prelude.{◌≡◌, ℕ, ◌<◌, ◌≤◌, List, [], ◌�
 use Rattle.gt_core.specs.Literal.{is_in}
 use Rattle.gt_core.specs.Published.{order_of}
 use Rattle.action_order.specs.own.Graph.{item}
+use Rattle.gt_core.specs.Limits.{most_actions}
 
 -- the name of the component in which an action stands: its first action, which is its least
 abbrev pub name_in : List (List ℕ) → ℕ → ℕ
@@ -15,5 +16,5 @@ pub record IsOrder (components : List (List ℕ)) (order places names : List ℕ
   pub placed : (p : ℕ) → p < length order → (item order p < length places) × (item places (item order p) ≡ p)
   pub names_long : length names ≡ length places
   pub named : (a : ℕ) → is_in order a ≡ true → item names a ≡ name_in components a
-  pub few : length components ≤ 16384
-  pub short : length order ≤ 16384
+  pub few : length components ≤ most_actions
+  pub short : length order ≤ most_actions

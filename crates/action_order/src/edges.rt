@@ -7,6 +7,7 @@ ghost use Rattle.std.specs.List.{AllByRecursion};
 ghost use Rattle.bit_sets.specs.Rows.{row_has};
 ghost use Rattle.action_order.specs.own.Readers.{ActionWithin, AreRowsOf};
 ghost use Rattle.action_order.specs.own.Edges.{edge_in, AreEdges, is_reader, is_touched, is_in_rows, is_opposed, surely};
+ghost use Rattle.gt_core.specs.Limits.{most_facts, most_actions};
 
 use crate::readers::{enter_literals, find_exclusions, find_readers};
 use crate::sure::all_sure;
@@ -38,7 +39,7 @@ impl Drop for Rows {
 
 /// The actions that surely make each literal true.
 fn find_makers(alloc: Global, keys: usize, sure: &[Lits]) -> Result<Vec<BitRow>, AllocError>
-    requires few { length sure.now ≤ 16384 }
+    requires few { length sure.now ≤ most_actions }
     requires below { AllByRecursion (AllByRecursion (λ l. l < keys)) sure.now }
     ensures { IfOk result (λ rows. AreRowsOf (surely sure.now) keys (length sure.now) rows.items) }
 {
@@ -108,9 +109,9 @@ impl Rows {
 
     /// The rows of some actions.
     fn new(alloc: Global, facts: u32, acts: &[Act], pairs: &Pairs) -> Result<Rows, AllocError>
-        requires facts { facts ≤ 2048 }
+        requires facts { facts ≤ most_facts }
         requires same { pairs.now.facts ≡ facts }
-        requires few { length acts.now ≤ 16384 }
+        requires few { length acts.now ≤ most_actions }
         requires within { AllByRecursion (ActionWithin facts) acts.now }
         ensures { IfOk result (AreEdgeRows pairs.now.clauses facts acts.now) }
     {
@@ -138,7 +139,7 @@ impl Rows {
     ) -> Result<BitRow, AllocError>
         requires rows { AreEdgeRows pairs.now.clauses facts acts.now self.now }
         requires within { AllByRecursion (ActionWithin facts) acts.now }
-        requires few { length acts.now ≤ 16384 }
+        requires few { length acts.now ≤ most_actions }
         requires a { a < length acts.now }
         ensures { IfOk result (λ row. (b : ℕ) → row_has row b ≡ edge_in pairs.now.clauses acts.now a b) }
     {
@@ -169,9 +170,9 @@ pub fn edges(
     acts: &[Act],
     pairs: &Pairs,
 ) -> Result<Vec<BitRow>, AllocError>
-    requires facts { facts ≤ 2048 }
+    requires facts { facts ≤ most_facts }
     requires same { pairs.now.facts ≡ facts }
-    requires few { length acts.now ≤ 16384 }
+    requires few { length acts.now ≤ most_actions }
     requires within { AllByRecursion (ActionWithin facts) acts.now }
     ensures { IfOk result (λ targets. AreEdges pairs.now.clauses acts.now (length acts.now) targets.items) }
 {

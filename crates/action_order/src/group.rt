@@ -4,6 +4,7 @@ ghost use Rattle.std.specs.Prelude.{◌≡◌, ℕ, ◌<◌, ◌≤◌, [], repl
 ghost use Rattle.std.specs.List.{AllByRecursion};
 ghost use Rattle.action_order.specs.own.Graph.{class_at};
 ghost use Rattle.action_order.specs.own.Group.{members, listed};
+ghost use Rattle.gt_core.specs.Limits.{most_actions};
 
 use crate::numbers::ActNumbers;
 use containers::equal::empty_lists;
@@ -12,7 +13,7 @@ use std::alloc::{AllocError, Global};
 /// The members of each component, by its number.
 fn group(alloc: Global, numbers: &[usize], count: usize) -> Result<Vec<ActNumbers>, AllocError>
     requires below { AllByRecursion (λ c. c < count) numbers.now }
-    requires few { length numbers.now ≤ 16384 }
+    requires few { length numbers.now ≤ most_actions }
     ensures long { IfOk result (λ groups. length groups.items ≡ count) }
     ensures members { IfOk result (λ groups. (c : ℕ) → c < count → slice_index_or groups.items c [] ≡ members numbers.now c) }
 {
@@ -32,7 +33,7 @@ pub fn list(
     order: &[usize],
 ) -> Result<Vec<ActNumbers>, AllocError>
     requires below { AllByRecursion (λ c. c < count) numbers.now }
-    requires few { length numbers.now ≤ 16384 }
+    requires few { length numbers.now ≤ most_actions }
     requires order { AllByRecursion (λ c. c < count) order.now }
     ensures { IfOk result (λ components. components.items ≡ listed numbers.now order.now) }
 {

@@ -1,4 +1,5 @@
 //! The published order and its look-ups.
+ghost use Rattle.gt_core.specs.Limits.{most_actions};
 
 use crate::numbers::ActNumbers;
 use containers::let_go;
@@ -98,7 +99,7 @@ impl Order {
     /// The components in their order, each with its actions rising.
     pub fn groups(&self) -> &[ActNumbers]
         ensures groups { result.now ≡ self.now }
-        ensures short { length (order_of self.now) ≤ 16384 }
+        ensures short { length (order_of self.now) ≤ most_actions }
     {
         self.components.as_slice()
     }

@@ -6,6 +6,7 @@ ghost use Rattle.gt_core.specs.Literal.{range};
 ghost use Rattle.gt_core.specs.Published.{IsListed, IsPublished, KeepsApart, HasEachOnce, order_of};
 ghost use Rattle.action_order.specs.own.Graph.{IsGraph, leads, item};
 ghost use Rattle.action_order.specs.Order.{name_in};
+ghost use Rattle.gt_core.specs.Limits.{most_actions};
 
 use crate::edges::edges;
 use crate::group::list;
@@ -44,7 +45,7 @@ fn names_of(alloc: Global, names: &[u32], numbers: &[usize]) -> Result<Vec<u32>,
 /// The components of a graph in the published order.
 fn list_components(alloc: Global, targets: Vec<BitRow>) -> Result<Listing, AllocError>
     requires graph { IsGraph targets.items }
-    requires few { length targets.items ≤ 16384 }
+    requires few { length targets.items ≤ most_actions }
     ensures listed { IfOk result (λ r. IsListed (leads targets.items) (range (length targets.items)) [] r.components.items) }
     ensures long { IfOk result (λ r. length r.names.items ≡ length targets.items) }
     ensures names { IfOk result (λ r. (a : ℕ) → a < length targets.items → item r.names.items a ≡ name_in r.components.items a) }
@@ -74,7 +75,7 @@ fn flatten(alloc: Global, components: &[ActNumbers]) -> Result<Vec<u32>, AllocEr
 fn places_of(alloc: Global, order: &[u32], count: usize) -> Result<Vec<u32>, AllocError>
     requires below { AllByRecursion (λ a. a < count) order.now }
     requires unequal { (k p : ℕ) → k < p → p < length order.now → item order.now k ≡ item order.now p → ⊥ }
-    requires few { length order.now ≤ 16384 }
+    requires few { length order.now ≤ most_actions }
     ensures long { IfOk result (λ places. length places.items ≡ count) }
     ensures placed { IfOk result (λ places. (p : ℕ) → p < length order.now → item places.items (item order.now p) ≡ p) }
 {

@@ -3,6 +3,7 @@
 ghost use Rattle.std.specs.Prelude.{◌≡◌, ℕ, ◌<◌, ◌≤◌, length, IfOk};
 ghost use Rattle.action_order.specs.own.Graph.{IsGraph, IsClassed, class_at};
 ghost use Rattle.action_order.specs.own.Quotient.{AreUnited, IsWithoutOwn, IsQuotient, AreNames};
+ghost use Rattle.gt_core.specs.Limits.{most_actions};
 
 use bit_sets::row::{BitRow, empty_rows};
 use std::alloc::{AllocError, Global};
@@ -28,7 +29,7 @@ fn unite(
 
 /// Takes each vertex out of the row of its own component.
 fn leave_own_out(rows: &mut Vec<BitRow>, numbers: &[usize])
-    requires few { length numbers.now ≤ 16384 }
+    requires few { length numbers.now ≤ most_actions }
     requires below { (a : ℕ) → a < length numbers.now → class_at numbers.now a < length rows.old.items }
     ensures { IsWithoutOwn numbers.now (length numbers.now) rows.old.items rows.new.items }
 {
@@ -46,7 +47,7 @@ pub fn quotient(
     roots: &[u32],
 ) -> Result<Vec<BitRow>, AllocError>
     requires graph { IsGraph targets.items }
-    requires few { length targets.items ≤ 16384 }
+    requires few { length targets.items ≤ most_actions }
     requires classes { IsClassed targets.items numbers.now roots.now }
     ensures { IfOk result (λ rows. IsQuotient targets.items numbers.now (length roots.now) rows.items) }
 {
@@ -58,7 +59,7 @@ pub fn quotient(
 /// The least vertex of each component.
 pub fn names(alloc: Global, numbers: &[usize], roots: &[u32]) -> Result<Vec<u32>, AllocError>
     requires below { (a : ℕ) → a < length numbers.now → class_at numbers.now a < length roots.now }
-    requires few { length numbers.now ≤ 16384 }
+    requires few { length numbers.now ≤ most_actions }
     requires used { AreNames numbers.now (length roots.now) 0 roots.now }
     ensures { IfOk result (λ names. AreNames numbers.now (length roots.now) (length numbers.now) names.items) }
 {

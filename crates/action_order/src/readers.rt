@@ -9,6 +9,7 @@ ghost use Rattle.gt_core.specs.Active.{EffectWithin};
 ghost use Rattle.gt_core.specs.Interference.{action_asks, exclusive, has_clause};
 ghost use Rattle.action_order.specs.own.Graph.{row_at};
 ghost use Rattle.action_order.specs.own.Readers.{ActionWithin, IsEntered, AreRowsOf, AreExclusions, IsPartOf, IsOpposed, of_effects, needs, asks_of, has_fact, is_excluded};
+ghost use Rattle.gt_core.specs.Limits.{most_facts, most_actions};
 
 use bit_sets::row::{BitRow, empty_rows};
 use gt_core::act::Act;
@@ -72,8 +73,8 @@ fn enter_effects(rows: &mut Vec<BitRow>, effects: &[Eff], b: u32) -> Result<(), 
 
 /// The actions that read each literal.
 pub fn find_readers(alloc: Global, facts: u32, acts: &[Act]) -> Result<Readers, AllocError>
-    requires facts { facts ≤ 2048 }
-    requires few { length acts.now ≤ 16384 }
+    requires facts { facts ≤ most_facts }
+    requires few { length acts.now ≤ most_actions }
     requires within { AllByRecursion (ActionWithin facts) acts.now }
     ensures needing { IfOk result (λ r. AreRowsOf (needs acts.now) (2 * facts) (length acts.now) r.needing.items) }
     ensures asking { IfOk result (λ r. AreRowsOf (asks_of acts.now) facts (length acts.now) r.asking.items) }

@@ -7,6 +7,7 @@ ghost use Rattle.bit_sets.specs.Rows.{row_has};
 ghost use Rattle.gt_core.specs.Literal.{range};
 ghost use Rattle.action_order.specs.own.Graph.{class_at};
 ghost use Rattle.action_order.specs.own.Sorting.{IsPending, IsTopologicalOrder, AreNamedComponents};
+ghost use Rattle.gt_core.specs.Limits.{most_actions};
 
 use crate::numbers::ActNumbers;
 use crate::ready::{put, take_first};
@@ -29,7 +30,7 @@ pub struct TopologicalSort {
 
 /// The least target of a component, from one vertex on, whose component is not taken.
 fn pending(taken: &[bool], numbers: &[usize], row: &BitRow, start: u32) -> Option<u32>
-    requires few { length numbers.now ≤ 16384 }
+    requires few { length numbers.now ≤ most_actions }
     requires vertex { (b : ℕ) → row_has row.now b ≡ true → b < length numbers.now }
     requires below { (b : ℕ) → row_has row.now b ≡ true → class_at numbers.now b < length taken.now }
     ensures { IsPending taken.now numbers.now row.now start result }
@@ -57,10 +58,10 @@ impl TopologicalSort {
         free: &[u32],
     ) -> Result<(), AllocError>
         requires rows { AreNamedComponents rows.now names.now numbers.now }
-        requires few { length numbers.now ≤ 16384 }
+        requires few { length numbers.now ≤ most_actions }
         requires sorting { IsSortingOf rows.now names.now numbers.now self.old (c ∷ free.now) }
         requires below { c < length rows.now }
-        requires small { length rows.now ≤ 16384 }
+        requires small { length rows.now ≤ most_actions }
         ensures sorting { OnOk result (IsSortingOf rows.now names.now numbers.now self.new free.now) }
         ensures taken { OnOk result (self.new.taken.items ≡ self.old.taken.items) }
     {
@@ -90,8 +91,8 @@ impl TopologicalSort {
         free: &[u32],
     ) -> Result<(), AllocError>
         requires rows { AreNamedComponents rows.now names.now numbers.now }
-        requires few { length numbers.now ≤ 16384 }
-        requires small { length rows.now ≤ 16384 }
+        requires few { length numbers.now ≤ most_actions }
+        requires small { length rows.now ≤ most_actions }
         requires sorting { IsSortingOf rows.now names.now numbers.now self.old free.now }
         requires below { (i : ℕ) → i < length free.now → slice_index_or free.now i 0 < length rows.now }
         ensures sorting { OnOk result (IsSortingOf rows.now names.now numbers.now self.new []) }
@@ -113,8 +114,8 @@ impl TopologicalSort {
         t: usize,
     ) -> Result<(), AllocError>
         requires rows { AreNamedComponents rows.now names.now numbers.now }
-        requires few { length numbers.now ≤ 16384 }
-        requires small { length rows.now ≤ 16384 }
+        requires few { length numbers.now ≤ most_actions }
+        requires small { length rows.now ≤ most_actions }
         requires next { TakesNext rows.now names.now numbers.now self.old t }
         ensures sorting { OnOk result (IsSortingOf rows.now names.now numbers.now self.new []) }
         ensures taken { OnOk result (self.new.taken.items ≡ slice_set self.old.taken.items t true) }
@@ -145,7 +146,7 @@ impl TopologicalSort {
 
 /// The numbers below one, rising.
 fn numbers_below(alloc: Global, count: usize) -> Result<Vec<u32>, AllocError>
-    requires { count ≤ 16384 }
+    requires { count ≤ most_actions }
     ensures { IfOk result (λ numbers. numbers.items ≡ range count) }
 {
     let mut numbers = Vec::new(alloc);
@@ -163,8 +164,8 @@ pub fn sort_components(
     numbers: &[usize],
 ) -> Result<Vec<usize>, AllocError>
     requires rows { AreNamedComponents rows.now names.now numbers.now }
-    requires few { length numbers.now ≤ 16384 }
-    requires small { length rows.now ≤ 16384 }
+    requires few { length numbers.now ≤ most_actions }
+    requires small { length rows.now ≤ most_actions }
     ensures { IfOk result (λ order. IsTopologicalOrder rows.now names.now numbers.now order.items) }
 {
     let mut sort = TopologicalSort::new(alloc, rows.len())?;

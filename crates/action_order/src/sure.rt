@@ -5,6 +5,7 @@ ghost use Rattle.std.specs.List.{AllByRecursion};
 ghost use Rattle.bit_sets.specs.Rows.{row_has};
 ghost use Rattle.action_order.specs.own.Readers.{ActionWithin};
 ghost use Rattle.action_order.specs.own.Sure.{IsSure, AreSure, AreMade, makes_surely};
+ghost use Rattle.gt_core.specs.Limits.{most_facts};
 
 use bit_sets::row::BitRow;
 use gt_core::act::Act;
@@ -54,7 +55,7 @@ fn sure_literals(
 
 /// The literals that each action surely makes true.
 pub fn all_sure(alloc: Global, facts: u32, acts: &[Act]) -> Result<Vec<Lits>, AllocError>
-    requires facts { facts ≤ 2048 }
+    requires facts { facts ≤ most_facts }
     requires within { AllByRecursion (ActionWithin facts) acts.now }
     ensures { IfOk result (λ sure. AreSure (2 * facts) acts.now sure.items) }
 {

@@ -13,6 +13,7 @@ ghost use Rattle.bit_sets.specs.Rows.{row_has};
 ghost use Rattle.gt_core.specs.Literal.{is_in};
 ghost use Rattle.action_order.specs.own.Graph.{item, leads, IsGraph, IsClassed};
 ghost use Rattle.action_order.specs.own.Walk.{IsLast, MarksFrom, TakesFrom, lower, place_of, ends_past, ends_with, number_of};
+ghost use Rattle.gt_core.specs.Limits.{most_actions};
 
 use bit_sets::row::BitRow;
 use std::alloc::{AllocError, Global};
@@ -115,7 +116,7 @@ impl Walk {
     fn lowest(&self, targets: &[BitRow], v: u32) -> Option<usize>
         requires walk { IsWalkOf targets.now self.now }
         requires graph { IsGraph targets.now }
-        requires few { length targets.now ≤ 16384 }
+        requires few { length targets.now ≤ most_actions }
         requires vertex { v < length targets.now }
         ensures { IsLowest targets.now self.now.marks.items v result }
     {
@@ -141,7 +142,7 @@ impl Walk {
     fn open(&mut self, targets: &[BitRow], v: u32) -> Result<(), AllocError>
         requires walk { IsWalkOf targets.now self.old }
         requires graph { IsGraph targets.now }
-        requires few { length targets.now ≤ 16384 }
+        requires few { length targets.now ≤ most_actions }
         requires vertex { v < length targets.now }
         requires unseen { mark_of self.old.marks.items v ≡ Mark.Unseen }
         requires reached { AllReach targets.now self.old.stack.items v }
@@ -216,7 +217,7 @@ impl Walk {
     fn step(&mut self, targets: &[BitRow]) -> Result<(), AllocError>
         requires walk { IsWalkOf targets.now self.old }
         requires graph { IsGraph targets.now }
-        requires few { length targets.now ≤ 16384 }
+        requires few { length targets.now ≤ most_actions }
         requires work { 0 < length self.old.work.items }
         ensures walk { OnOk result (IsWalkOf targets.now self.new) }
         ensures keeps { OnOk result (KeepsSeen self.old.marks.items self.new.marks.items) }
@@ -240,7 +241,7 @@ impl Walk {
     fn enter(&mut self, targets: &[BitRow], root: u32) -> Result<(), AllocError>
         requires walk { IsWalkOf targets.now self.old }
         requires graph { IsGraph targets.now }
-        requires few { length targets.now ≤ 16384 }
+        requires few { length targets.now ≤ most_actions }
         requires root { root < length targets.now }
         requires start { length self.old.stack.items ≡ 0 }
         ensures walk { OnOk result (IsWalkOf targets.now self.new) }
@@ -257,7 +258,7 @@ impl Walk {
     fn walk_on(&mut self, targets: &[BitRow]) -> Result<(), AllocError>
         requires walk { IsWalkOf targets.now self.old }
         requires graph { IsGraph targets.now }
-        requires few { length targets.now ≤ 16384 }
+        requires few { length targets.now ≤ most_actions }
         ensures walk { OnOk result (IsWalkOf targets.now self.new) }
         ensures keeps { OnOk result (KeepsSeen self.old.marks.items self.new.marks.items) }
         ensures end { OnOk result (length self.new.stack.items ≡ 0) }
@@ -270,7 +271,7 @@ impl Walk {
 
     /// The walk that has seen nothing.
     fn new(alloc: Global, targets: &[BitRow]) -> Result<Walk, AllocError>
-        requires { length targets.now ≤ 16384 }
+        requires { length targets.now ≤ most_actions }
         ensures walk { IfOk result (λ walk. IsWalkOf targets.now walk) }
         ensures start { IfOk result (λ walk. length walk.stack.items ≡ 0) }
     {
@@ -307,7 +308,7 @@ pub struct Components {
 /// The components of a graph.
 pub fn find_components(alloc: Global, targets: &[BitRow]) -> Result<Components, AllocError>
     requires graph { IsGraph targets.now }
-    requires few { length targets.now ≤ 16384 }
+    requires few { length targets.now ≤ most_actions }
     ensures { IfOk result (λ r. IsClassed targets.now r.numbers.items r.roots.items) }
 {
     let mut walk = Walk::new(alloc, targets)?;
@@ -379,7 +380,7 @@ fn lower(lowest: Option<usize>, place: usize) -> Option<usize>
 
 /// The numbers below one.
 fn row_below(alloc: Global, count: usize) -> Result<BitRow, AllocError>
-    requires { count ≤ 16384 }
+    requires { count ≤ most_actions }
     ensures { IfOk result (λ row. (k : ℕ) → row_has row k ≡ nat_lt k count) }
 {
     let mut row = BitRow::new(alloc);

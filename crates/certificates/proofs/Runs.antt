@@ -10,7 +10,8 @@ use Rattle.cdcl_defs.specs.declared.standing.Standing.TheVariants.{Going, Found,
 use Rattle.horizon_run.specs.Run.{RunView, choice_in, truths_of, IsMoved, IsReached}
 use Rattle.proof_log.specs.Text.{proof_text}
 use Rattle.certificates.specs.Certificate.{IsSpelled, IsCertificate}
-use Rattle.certificates.specs.Proved.{most_bytes, certificate_of}
+use Rattle.containers.specs.Limits.{certificate_bytes}
+use Rattle.certificates.specs.Proved.{certificate_of}
 use Rattle.certificates.specs.declared.prove.Proved.{Proved}
 use Rattle.certificates.specs.declared.prove.Proved.TheVariants.{Certificate, TooLong}
 
@@ -40,7 +41,7 @@ certificate_or_none other not_one not_long false text e = not_long e
 pub no_other : {A : Type 0} (other : Proved) → ((text : List ℕ) → other ≡ Certificate text → ⊥) → (other ≡ TooLong → ⊥) → (horizon : ℕ) (log : List Entry) (r : Result Proved Memory) → r ≡ Ok other
     → IfOk r (λ p. p ≡ certificate_of horizon log) → A
 no_other other not_one not_long horizon log r e is =
-    absurd (certificate_or_none other not_one not_long (nat_le (length (proof_text horizon log)) most_bytes) (proof_text horizon log) (IfOk-at_ok (λ p. p ≡ certificate_of horizon log) e is))
+    absurd (certificate_or_none other not_one not_long (nat_le (length (proof_text horizon log)) certificate_bytes) (proof_text horizon log) (IfOk-at_ok (λ p. p ≡ certificate_of horizon log) e is))
 
 -- the values of a run that found a plan are a model of its formula
 pub found_model : (run : RunView) → IsMoved run → IsReached (choice_in run) run.formula run.granted → run.state.standing ≡ Found → IsModel run.formula (truths_of run.formula run.state)

@@ -4,10 +4,11 @@ use Rattle.clause_base.specs.Formula.{Cnf}
 use Rattle.clause_base.specs.Derivation.{IsRefutation}
 use Rattle.clause_base.specs.declared.log.Entry.{Entry}
 use Rattle.proof_log.specs.Text.{AreWritten, proof_text}
+use Rattle.horizon_rates.specs.Limits.{last_horizon}
 
 -- a horizon and a log, spelled by a text
 pub record IsSpelled (text : List ℕ) (horizon : ℕ) (log : List Entry) : Type 0 where
-  pub within : horizon ≤ 255
+  pub within : horizon ≤ last_horizon
   pub written : AreWritten log
   pub spelled : text ≡ proof_text horizon log
 

@@ -15,14 +15,11 @@ use Rattle.certificates.specs.Known.{IsOrdered, form_of, choice_at, formula_at}
 use Rattle.certificates.specs.Certificate.{IsCertificate}
 use Rattle.certificates.specs.declared.prove.Proved.{Proved}
 use Rattle.certificates.specs.declared.prove.Proved.TheVariants.{Certificate, TooLong, Plan, Open}
-
--- how many bytes a certificate may have
-abbrev pub most_bytes : ℕ
-most_bytes = 16777216
+use Rattle.containers.specs.Limits.{certificate_bytes}
 
 -- the certificate of a horizon and a log, where it is not too long
 abbrev pub certificate_of : ℕ → List Entry → Proved
-certificate_of horizon log = if nat_le (length (proof_text horizon log)) most_bytes then Certificate (proof_text horizon log) else TooLong
+certificate_of horizon log = if nat_le (length (proof_text horizon log)) certificate_bytes then Certificate (proof_text horizon log) else TooLong
 
 -- what the run of a horizon comes to that stands so in a state
 abbrev pub proved_as : ℕ → Standing → State → Proved

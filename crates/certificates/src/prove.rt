@@ -6,10 +6,12 @@ ghost use Rattle.step_encoding.specs.{Limits.planner_literals, Numbers.literals_
 ghost use Rattle.certificates.specs.Known.{HasTooMany};
 ghost use Rattle.certificates.specs.Certificate.{IsSpelled, IsCertificate};
 ghost use Rattle.certificates.specs.Proved.{certificate_of, proved_of, Proves};
+ghost use Rattle.horizon_rates.specs.Limits.{last_horizon};
 
 use crate::error::ProofError;
 use action_order::publish::publish;
 use cdcl_defs::standing::Standing;
+use containers::limits::CERTIFICATE_BYTES;
 use containers::memory::Memory;
 use gt_core::task::Task;
 use horizon_run::HorizonRun;
@@ -21,9 +23,6 @@ use step_encoding::exists::ExistsForm;
 use step_encoding::form::StepForm;
 use step_encoding::limits::PLANNER_LITERALS;
 use two_invariants::find;
-
-/// How many bytes a certificate may have.
-const MOST_BYTES: u64 = 16_777_216;
 
 /// What the run of a horizon comes to.
 #[derive(Drop)]
@@ -47,7 +46,7 @@ pub fn prove(
     horizon: u32,
     budget: u64,
 ) -> Result<Proved, ProofError>
-    requires horizon { horizon ≤ 255 }
+    requires horizon { horizon ≤ last_horizon }
     requires budget { budget ≤ 1000000 }
     ensures proved { IfOk result (Proves task.now horizon budget) }
     ensures literals { (count : ℕ) → result ≡ Err (ProofError.Literals count) → HasTooMany task.now horizon count }
@@ -67,7 +66,7 @@ fn run_on<F: StepForm>(
     budget: u64,
 ) -> Result<Proved, ProofError>
     requires form_of { F.task form.now ≡ task.now }
-    requires horizon { horizon ≤ 255 }
+    requires horizon { horizon ≤ last_horizon }
     requires budget { budget ≤ 1000000 }
     ensures proved { IfOk result (λ p. p ≡ proved_of horizon (reached (choice_of task.now (F.layout_of form.now horizon)) (F.formula_of form.now horizon) budget)) }
     ensures small { IfOk result (λ p. literals_of (F.formula_of form.now horizon) ≤ planner_literals) }
@@ -89,7 +88,7 @@ fn run_on<F: StepForm>(
 
 // What a run came to.
 fn told(alloc: Global, horizon: u32, solving: &HorizonRun) -> Result<Proved, Memory>
-    requires horizon { horizon ≤ 255 }
+    requires horizon { horizon ≤ last_horizon }
     requires sane { solving.now.spoilt ≡ false }
     ensures proved { IfOk result (λ p. p ≡ proved_of horizon solving.now.state) }
     ensures certified { (text : List ℕ) → result ≡ Ok (Proved.Certificate text) → IsCertificate (λ h. solving.now.formula) text horizon }
@@ -110,12 +109,12 @@ fn told(alloc: Global, horizon: u32, solving: &HorizonRun) -> Result<Proved, Mem
 
 // The certificate of a horizon and a log.
 fn certificate(alloc: Global, horizon: u32, log: &Log) -> Result<Proved, Memory>
-    requires { horizon ≤ 255 }
+    requires { horizon ≤ last_horizon }
     ensures proved { IfOk result (λ p. p ≡ certificate_of horizon log.now) }
     ensures spelled { (text : List ℕ) → result ≡ Ok (Proved.Certificate text) → IsSpelled text horizon log.now }
 {
     written(log);
-    if proof_length(horizon, log) > MOST_BYTES {
+    if proof_length(horizon, log) > CERTIFICATE_BYTES {
         return Ok(Proved::TooLong);
     }
     Ok(Proved::Certificate(write_proof(alloc, horizon, log)?))

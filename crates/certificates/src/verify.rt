@@ -3,6 +3,8 @@ ghost use Rattle.std.specs.Prelude.{◌≡◌, ◌≤◌, ◌<◌, ℕ, List, le
 ghost use Rattle.step_encoding.specs.{Limits.planner_literals, Numbers.literals_of};
 ghost use Rattle.certificates.specs.Known.{HasTooMany};
 ghost use Rattle.certificates.specs.Judged.{IsJudged, Judges};
+ghost use Rattle.horizon_rates.specs.Limits.{last_horizon};
+ghost use Rattle.containers.specs.Limits.{certificate_bytes};
 
 use crate::error::ProofError;
 use action_order::publish::publish;
@@ -35,8 +37,8 @@ pub fn verify(
     task: &Task,
     proof: &Proof,
 ) -> Result<Judged, ProofError>
-    requires horizon { proof.now.horizon ≤ 255 }
-    requires few { length proof.now.log ≤ 16777216 }
+    requires horizon { proof.now.horizon ≤ last_horizon }
+    requires few { length proof.now.log ≤ certificate_bytes }
     ensures judged { IfOk result (Judges task.now proof.now.horizon proof.now.log) }
     ensures literals { (count : ℕ) → result ≡ Err (ProofError.Literals count) → HasTooMany task.now proof.now.horizon count }
 {
@@ -48,8 +50,8 @@ pub fn verify(
 
 // What the checker says of a certificate over the formula of its horizon.
 fn judge<F: StepForm>(alloc: Global, form: &F, proof: &Proof) -> Result<Judged, ProofError>
-    requires horizon { proof.now.horizon ≤ 255 }
-    requires few { length proof.now.log ≤ 16777216 }
+    requires horizon { proof.now.horizon ≤ last_horizon }
+    requires few { length proof.now.log ≤ certificate_bytes }
     ensures judged { IfOk result (IsJudged (F.formula_of form.now proof.now.horizon) proof.now.log) }
     ensures small { IfOk result (λ j. literals_of (F.formula_of form.now proof.now.horizon) ≤ planner_literals) }
     ensures none { (entries : ℕ) → result ≡ Ok (Judged.Accepted entries) → (steps : List (List ℕ)) → F.is_plan form.now proof.now.horizon steps → ⊥ }

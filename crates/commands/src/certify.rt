@@ -1,10 +1,11 @@
 //! What files come to for the commands on certificates.
 ghost use Rattle.std.specs.Prelude.{◌≡◌, ◌≤◌, length, IfOk};
-ghost use Rattle.input_files.specs.Limits.{most_bytes};
+ghost use Rattle.containers.specs.Limits.{most_bytes, certificate_bytes};
 ghost use Rattle.certificates.specs.Certificate.{IsSpelled};
 ghost use Rattle.plan_endings.specs.Ends.{EndsAs, StopsBy};
 ghost use Rattle.commands.specs.Answers.{AnswersProve, AnswersVerify, RefusesProof, ending_of_run, ending_of_check};
 ghost use Rattle.commands.specs.Tasks.{OnceRead, OnceGrounded};
+ghost use Rattle.horizon_rates.specs.Limits.{last_horizon};
 
 use certificates::ProofError;
 use certificates::prove::{Proved, prove};
@@ -30,7 +31,7 @@ pub(crate) fn answer_prove<H: Threads + Sync>(
 ) -> Result<Ending, Stop>
     requires domain_fits { length domain.now ≤ most_bytes }
     requires problem_fits { length problem.now ≤ most_bytes }
-    requires horizon { horizon ≤ 255 }
+    requires horizon { horizon ≤ last_horizon }
     requires budget { budget ≤ 1000000 }
     ensures { EndsAs (OnceGrounded domain.now problem.now (AnswersProve horizon budget)) result }
 {
@@ -63,7 +64,7 @@ pub(crate) fn answer_verify<H: Threads + Sync>(
 ) -> Result<Ending, Stop>
     requires domain_fits { length domain.now ≤ most_bytes }
     requires problem_fits { length problem.now ≤ most_bytes }
-    requires proof_fits { length proof.now ≤ 16777216 }
+    requires proof_fits { length proof.now ≤ certificate_bytes }
     ensures { EndsAs (OnceRead domain.now problem.now (λ task. AnswersVerify task proof.now)) result }
 {
     let task = read_task(alloc, domain, problem)?;
@@ -81,9 +82,9 @@ pub(crate) fn answer_verify<H: Threads + Sync>(
 
 // The horizon and the log that the bytes of a file spell.
 fn read_certificate(alloc: Global, bytes: &[u8]) -> Result<Proof, Stop>
-    requires { length bytes.now ≤ 16777216 }
+    requires { length bytes.now ≤ certificate_bytes }
     ensures spelled { IfOk result (λ proof. IsSpelled bytes.now proof.horizon proof.log) }
-    ensures few { IfOk result (λ proof. length proof.log ≤ 16777216) }
+    ensures few { IfOk result (λ proof. length proof.log ≤ certificate_bytes) }
     ensures stops { StopsBy (RefusesProof bytes.now) result }
 {
     match read_proof(alloc, bytes) {

@@ -2,7 +2,7 @@
 ghost use Rattle.std.specs.Prelude.{◌≡◌, ◌≤◌, ◌++◌, length, IfOk};
 ghost use Rattle.race_outcome.specs.Ends.{end_view, lines_in, conflicts_in};
 ghost use Rattle.plan_gen.specs.Task.{domain_of, problem_of};
-ghost use Rattle.input_files.specs.Limits.{most_bytes};
+ghost use Rattle.containers.specs.Limits.{most_bytes};
 ghost use Rattle.commands.specs.Tasks.{OnceGrounded};
 ghost use Rattle.commands.specs.Generated.{AnswersGenerated, RacesGenerated, kind_text, generated_line, generated_report};
 ghost use Rattle.plan_endings.specs.Ends.{EndsAs};

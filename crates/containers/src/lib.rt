@@ -2,7 +2,7 @@
 //! lists in two blocks of memory; and lists in memory that their copies share.
 //!
 //! `let_go!` takes a struct apart and lets each part go: what each `drop` that a crate writes by hand does. `equal` has vectors
-//! of items that are made alike. `codes` has literals as codes, and `memory` the want of memory that all crates answer.
+//! of items that are made alike. `codes` has literals as codes, `memory` the want of memory that all crates answer, and `limits` how long a file may be.
 //!
 //! `FlatLists` has lists of items in two blocks of memory: the items, and where each list ends. `SharedListOf` is a list that does not
 //! change, in memory that its copies share. `equal` fills a vector with so many items that one closure makes. Other crates pass `Memory` on
@@ -12,6 +12,7 @@
 pub mod codes;
 pub mod equal;
 mod flat_lists;
+pub mod limits;
 pub mod memory;
 mod shared;
 

@@ -2,6 +2,7 @@
 
 ghost use Rattle.std.specs.Prelude.{◌≡◌, ◌≤◌, replicate, IfOk};
 ghost use Rattle.goal_choice.specs.own.Members.{no_literals};
+ghost use Rattle.gt_core.specs.Limits.{most_facts};
 
 use bit_sets::row::BitRow;
 use containers::memory::Memory;
@@ -35,7 +36,7 @@ impl Literals {
 
     /// The set without literals, with room for those of so many facts.
     pub(crate) fn new(alloc: Global, facts: u32) -> Result<Literals, Memory>
-        requires { facts ≤ 2048 }
+        requires { facts ≤ most_facts }
         ensures { IfOk result (λ s. s ≡ record { facts = facts; members = [] }) }
     {
         let mut row = BitRow::new(alloc);
@@ -117,7 +118,7 @@ impl Literals {
 
 /// So many sets without literals, each with room for those of so many facts.
 pub(crate) fn empty_sets(alloc: Global, count: usize, facts: u32) -> Result<Vec<Literals>, Memory>
-    requires { facts ≤ 2048 }
+    requires { facts ≤ most_facts }
     ensures { IfOk result (λ sets. sets.items ≡ replicate count (no_literals facts)) }
 {
     let mut sets = Vec::with_capacity(alloc, count)?;

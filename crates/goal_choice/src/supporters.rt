@@ -4,6 +4,7 @@ ghost use Rattle.std.specs.Prelude.{◌≡◌, ◌/◌, ◌<◌, ◌≤◌, [], 
 ghost use Rattle.std.specs.List.{AllByRecursion};
 ghost use Rattle.goal_choice.specs.Means.{gathered_of, variable_from};
 ghost use Rattle.goal_choice.specs.Walk.{least_with};
+ghost use Rattle.gt_core.specs.Limits.{most_facts};
 
 use crate::flat_lists::list_at;
 use crate::gather::{needs_by_variable, variables_by_literal};
@@ -122,7 +123,7 @@ impl Supporters {
     /// How the variables are numbered.
     pub(crate) fn layout(&self) -> &Layout
         ensures layout { result.now ≡ self.now.layout }
-        ensures few { self.now.layout.facts ≤ 2048 }
+        ensures few { self.now.layout.facts ≤ most_facts }
         ensures kept { AreMeans self.now }
     {
         &self.layout

@@ -11,7 +11,7 @@ use Rattle.grounding_defs.specs.Sorted.{atom_less, IsSorted}
 use Rattle.grounding_defs.specs.Grounded.{IsGrounded}
 use Rattle.grounding_defs.specs.Simplify.{task_of}
 use Rattle.grounding_defs.specs.Found.{is_constant, facts_of, actions_of, grounded_by}
-use Rattle.grounding_defs.specs.Limits.{most_actions}
+use Rattle.gt_core.specs.Limits.{most_actions}
 use Rattle.grounding_defs.specs.Laws.{LeastIsGrounded}
 use Rattle.grounder.specs.own.Found.{AreFound}
 use Rattle.grounder.specs.own.Putting.{HasExactly}

@@ -5,7 +5,7 @@ use Rattle.std.proofs.lemmas.List.{map_more}
 use Rattle.std.proofs.lemmas.List.Sums.{sum_by_push}
 use Rattle.gt_core.specs.Lawful.{conditional_in, is_conditional}
 use Rattle.gt_core.specs.Task.{Action}
-use Rattle.grounding_defs.specs.Limits.{most_conditional}
+use Rattle.gt_core.specs.Limits.{most_conditional}
 use Rattle.grounding_defs.specs.Tuples.{saturated}
 use Rattle.grounder.specs.own.Counted.{HasCounted}
 use Rattle.grounder.specs.declared.conditional.Counted.{Counted}

@@ -1,9 +1,10 @@
 //! The actions, counted by their effects with a condition while they are made.
 ghost use Rattle.std.specs.Prelude.{◌≡◌, ◌+◌, ◌≤◌, ◌++◌, ◌∷◌, [], min, count_by, OnOk};
 ghost use Rattle.gt_core.specs.Lawful.{is_conditional};
-ghost use Rattle.grounding_defs.specs.Limits.{most_conditional};
+ghost use Rattle.gt_core.specs.Limits.{most_conditional};
 
 use gt_core::act::Act;
+use gt_core::limits::MOST_CONDITIONAL;
 use pd_model::Memory;
 
 /// The actions that were made, and how many of their effects have a condition; past the greatest number of 64 bits, that
@@ -22,7 +23,7 @@ impl Counted {
     {
         let more = act.conditional() as u64;
         self.conditional = self.conditional.saturating_add(more);
-        if self.conditional > 65536 {
+        if self.conditional > MOST_CONDITIONAL {
             self.acts.clear();
             return Ok(());
         }

@@ -5,7 +5,8 @@ ghost use Rattle.grounding_defs.specs.Instance.{instance_of};
 ghost use Rattle.grounding_defs.specs.Simplify.{action_of, values_in, task_of};
 ghost use Rattle.grounding_defs.specs.Sorted.{IsSorted, atom_less};
 ghost use Rattle.grounding_defs.specs.Grounded.{IsGrounded};
-ghost use Rattle.grounding_defs.specs.Limits.{most_tuples, most_facts, IsWithin, IsOverTuples, IsOverFacts, IsOverActions, IsOverEffects};
+ghost use Rattle.grounding_defs.specs.Limits.{most_tuples, IsWithin, IsOverTuples, IsOverFacts, IsOverActions, IsOverEffects};
+ghost use Rattle.gt_core.specs.Limits.{most_facts};
 ghost use Rattle.grounding_defs.specs.Tuples.{tuples_in};
 ghost use Rattle.grounder.specs.own.Few.{HasFew, HaveFew};
 ghost use Rattle.grounder.specs.own.Counted.{HasCounted};
@@ -26,6 +27,7 @@ use containers::let_go;
 use grounding_defs::laws::laws;
 use gt_core::act::{Act, Acts};
 use gt_core::eff::Effs;
+use gt_core::limits::{MOST_ACTIONS, MOST_CONDITIONAL, MOST_FACTS};
 use gt_core::lits::{Bits, Lits};
 use gt_core::task::Task;
 use pd_model::{Atom, Atoms, Call, Calls, Memory, Pddl};
@@ -33,6 +35,9 @@ use reachability::CallRows;
 use schema_domains::Domains;
 use std::alloc::Global;
 use std::marker::Model;
+
+// How many tuples a task may have.
+const MOST_TUPLES: u64 = 4_000_000;
 
 /// A task over numbered facts and actions, with the atom of each fact and the call of each action.
 pub struct Grounded {
@@ -208,13 +213,13 @@ fn make_numbered(
     laws();
     let known = known_of(alloc, domains, facts)?;
     let count = count_actions(&known, &kept) as u64;
-    if count > 16384 {
+    if count > MOST_ACTIONS {
         return Err(GroundError::Actions { count });
     }
     let calls = actions_of(&known, &kept)?;
     let counted = acts_of(&known, calls.as_slice())?;
     let count = counted.conditional;
-    if count > 65536 {
+    if count > MOST_CONDITIONAL {
         return Err(GroundError::Effects { count });
     }
     let task = task_of(&known, calls.as_slice(), Acts::of(counted.acts))?;
@@ -234,7 +239,7 @@ fn ground_over(alloc: Global, domains: &Domains) -> Result<Grounded, GroundError
     laws();
     let Found { facts, kept } = found_in(alloc, domains)?;
     let count = facts.as_slice().len() as u64;
-    if count > 2048 {
+    if count > MOST_FACTS {
         return Err(GroundError::Facts { count });
     }
     match make_numbered(alloc, domains, facts.as_slice(), kept) {
@@ -253,7 +258,7 @@ pub fn ground(alloc: Global, p: &Pddl) -> Result<Grounded, GroundError>
     ensures effects { (n : ℕ) → result ≡ Err (GroundError.Effects n) → IsOverEffects p.now n }
 {
     let count = count_tuples(p);
-    if count > 4_000_000 {
+    if count > MOST_TUPLES {
         return Err(GroundError::Tuples { count });
     }
     let domains = Domains::of(alloc, p)?;

@@ -22,6 +22,7 @@ use Rattle.grounding_defs.proofs.published.Orders.{numbers, effects}
 use Rattle.grounding_defs.proofs.published.Sets.{each_sorted, is_sorted}
 use Rattle.grounding_defs.proofs.published.Places.{literal_below}
 use Rattle.grounding_defs.proofs.Whole.{made}
+use Rattle.gt_core.specs.Limits.{most_facts, most_actions, most_conditional}
 
 -- sorted numbers within bounds rise
 rising : (top low : ℕ) (ls : List ℕ) → AllByRecursion (λ l. low ≤ l) ls → AllByRecursion (λ l. l < top) ls → IsSorted nat_lt ls → are_rising top low ls ≡ true
@@ -90,10 +91,10 @@ actions_are p facts (c ∷ calls) = and_from _ _ (action_is p facts (instance_of
 
 task_is : (p : Parts) (facts : List Atom) (calls : List Call) → IsWithin p (grounded_by p facts calls) → is_task (grounded_by p facts calls).task ≡ true
 task_is p facts calls within =
-    let long : length (map (λ c. action_of p facts (instance_of p c)) calls) ≤ 16384 = subst (λ (n : ℕ). n ≤ 16384) (sym (length-map calls (λ c. action_of p facts (instance_of p c)))) within.actions in
-    and_from _ _ (le-leb _ 2048 within.facts)
-    (and_from _ _ (le-leb _ 16384 long)
-    (and_from _ _ (le-leb _ 65536 within.effects)
+    let long : length (map (λ c. action_of p facts (instance_of p c)) calls) ≤ most_actions = subst (λ (n : ℕ). n ≤ most_actions) (sym (length-map calls (λ c. action_of p facts (instance_of p c)))) within.actions in
+    and_from _ _ (le-leb _ most_facts within.facts)
+    (and_from _ _ (le-leb _ most_actions long)
+    (and_from _ _ (le-leb _ most_conditional within.effects)
     (and_from _ _ (eq-eqb _ _ (length-map facts (λ a. is_in a p.init)))
     (and_from _ _ (is_set facts (goal_of p))
     (actions_are p facts calls)))))

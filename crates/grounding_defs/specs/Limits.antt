@@ -1,6 +1,7 @@
 -- The limits of grounding, in the order in which they are tested.
 use Rattle.std.specs.Prelude.{ℕ, ◌≡◌, ◌<◌, ◌≤◌, length}
 use Rattle.gt_core.specs.Lawful.{conditional_in}
+use Rattle.gt_core.specs.Limits.{most_facts, most_actions, most_conditional}
 use Rattle.pd_model.specs.declared.parts.Parts.{Parts}
 use Rattle.grounding_defs.specs.Grounded.{Grounded, IsGrounded}
 use Rattle.grounding_defs.specs.Tuples.{tuples_in, saturated}
@@ -8,18 +9,6 @@ use Rattle.grounding_defs.specs.Tuples.{tuples_in, saturated}
 -- how many tuples a task may have
 abbrev pub most_tuples : ℕ
 most_tuples = 4000000
-
--- how many facts a task may have
-abbrev pub most_facts : ℕ
-most_facts = 2048
-
--- how many actions a task may have
-abbrev pub most_actions : ℕ
-most_actions = 16384
-
--- how many effects with a condition a task may have
-abbrev pub most_conditional : ℕ
-most_conditional = 65536
 
 -- within all limits
 pub record IsWithin (p : Parts) (g : Grounded) : Type 0 where

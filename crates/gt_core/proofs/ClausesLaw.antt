@@ -4,6 +4,7 @@ use Rattle.gt_core.specs.Interference.{has_clause}
 use Rattle.gt_core.specs.Published.{Pairwise}
 use Rattle.gt_core.specs.Clauses.{KnownClauses, IsClause, IsBefore, IsKnownClauses}
 use Rattle.gt_core.proofs.published.Basics.{passing, each_at, each_from, or_split, and_split, not_true, test_same}
+use Rattle.gt_core.specs.Limits.{most_facts}
 
 -- How many known clauses there can be, and over which literals.
 
@@ -11,7 +12,7 @@ use Rattle.gt_core.proofs.published.Basics.{passing, each_at, each_from, or_spli
 abbrev key : ℕ × ℕ → ℕ
 key c = c.0 * 4096 + c.1
 
-few_from : (facts low : ℕ) (cs : List (ℕ × ℕ)) → facts ≤ 2048 → AllByRecursion (IsClause facts) cs → Pairwise IsBefore cs → AllByRecursion (λ c. low ≤ key c) cs → low ≤ 16777216 → length cs + low ≤ 16777216
+few_from : (facts low : ℕ) (cs : List (ℕ × ℕ)) → facts ≤ most_facts → AllByRecursion (IsClause facts) cs → Pairwise IsBefore cs → AllByRecursion (λ c. low ≤ key c) cs → low ≤ 16777216 → length cs + low ≤ 16777216
 few_from facts low [] f a p l b = omega arith
 few_from facts low (c ∷ cs) f a p l b =
     let top : key c + 1 ≤ 16777216 = let h = a.0 in omega arith in

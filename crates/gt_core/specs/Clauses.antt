@@ -3,6 +3,7 @@ use Rattle.std.specs.List.{AllByRecursion}
 use Rattle.bit_sets.specs.Rows.{row_has}
 use Rattle.gt_core.specs.Interference.{has_clause}
 use Rattle.gt_core.specs.Published.{Pairwise}
+use Rattle.gt_core.specs.Limits.{most_facts}
 
 -- a set of known clauses over so many facts
 pub record KnownClauses : Type 0 where
@@ -19,7 +20,7 @@ IsBefore c d = (c.0 < d.0) ⊎ ((c.0 ≡ d.0) × (c.1 < d.1))
 
 -- what each set of known clauses keeps: its clauses are over its facts, sorted, without repeats
 pub record IsKnownClauses (known : KnownClauses) : Type 0 where
-  pub few : known.facts ≤ 2048
+  pub few : known.facts ≤ most_facts
   pub lawful : AllByRecursion (IsClause known.facts) known.clauses
   pub sorted : Pairwise IsBefore known.clauses
 

@@ -1,6 +1,7 @@
 use Rattle.std.specs.Prelude.{ℕ, ◌+◌, ◌*◌, ◌==◌, List, [], ◌∷◌, Bool, true, false, not, ◌&&◌, ◌||◌, nat_lt, nat_le, length, count_by, sum_by, Option, Some, None}
 use Rattle.std.specs.List.{list_all}
 use Rattle.gt_core.specs.Task.{Effect, Action, Task}
+use Rattle.gt_core.specs.Limits.{most_facts, most_actions, most_conditional}
 
 -- literals that are at least `low` and below `top`, strictly rising
 abbrev pub are_rising : ℕ → ℕ → List ℕ → Bool
@@ -47,9 +48,9 @@ conditional_in actions = sum_by (λ a. count_by is_conditional a.effects) action
 -- what each task keeps: the limits, one truth value a fact, and literals that are in range and sorted
 abbrev pub is_task : Task → Bool
 is_task task =
-    nat_le task.facts 2048
-    && (nat_le (length task.actions) 16384
-    && (nat_le (conditional_in task.actions) 65536
+    nat_le task.facts most_facts
+    && (nat_le (length task.actions) most_actions
+    && (nat_le (conditional_in task.actions) most_conditional
     && ((length task.initial == task.facts)
     && (is_literal_set task.facts task.goal
     && list_all (is_action task.facts) task.actions))))

@@ -60,6 +60,10 @@ pub record IsRunToGoal (task : Task) (actions : List ℕ) : Type 0 where
   pub runs : CanRun task (initial_state task) actions
   pub reaches : IsGoal task (run task (initial_state task) actions)
 
+-- no actions are a run to the goal, however many
+abbrev pub HasNoRun : Task → Type 0
+HasNoRun task = (actions : List ℕ) → IsRunToGoal task actions → ⊥
+
 -- a step plan, each step listed in published order, runs action by action and reaches the goal
 abbrev pub StepPlanRunsInOrder : Type 0
 StepPlanRunsInOrder =

@@ -10,6 +10,8 @@ abbrev pub HoldsWherever : Task → List (ℕ × ℕ) → Type 0
 HoldsWherever task clauses =
     (ks : List ℕ) → CanRun task (initial_state task) ks → Knows clauses (run task (initial_state task) ks)
 
--- these truth values, one a fact, are those of a state that a sequence of actions reaches from the initial one
-abbrev pub IsReached : Task → List Bool → Type 0
-IsReached task s = (ks : List ℕ) × CanRun task (initial_state task) ks × (s ≡ map (run task (initial_state task) ks) (range task.facts))
+-- a state, a truth value a fact, that actions lead to which run one after the other from the initial state
+pub record IsReached (task : Task) (s : List Bool) : Type 0 where
+  pub actions : List ℕ
+  pub runs : CanRun task (initial_state task) actions
+  pub leads : s ≡ map (run task (initial_state task) actions) (range task.facts)

@@ -4,9 +4,11 @@ ghost use Rattle.std.specs.Prelude.{◌≡◌, ℕ, ◌≤◌, ◌*◌, nat_le, 
 ghost use Rattle.std.specs.List.{list_all};
 ghost use Rattle.std.specs.Option.{option_copied};
 ghost use Rattle.gt_core.specs.Lawful.{are_rising, list_less, effect_less, follows, are_effects, is_action, conditional_in};
+ghost use Rattle.gt_core.specs.Limits.{most_facts, most_conditional};
 
 use crate::act::Act;
 use crate::eff::Eff;
+use crate::limits::MOST_CONDITIONAL;
 
 /// Literals below `top`, sorted and without repeats.
 pub(crate) fn are_rising(lits: &[u32], top: u32) -> bool
@@ -56,7 +58,7 @@ fn follows(last: Option<&Eff>, effect: &Eff) -> bool
 }
 
 fn are_effects(effects: &[Eff], facts: u32) -> bool
-    requires { facts ≤ 2048 }
+    requires { facts ≤ most_facts }
     ensures { result ≡ are_effects facts None effects.now }
 {
     let mut last = None;
@@ -73,23 +75,23 @@ fn are_effects(effects: &[Eff], facts: u32) -> bool
 }
 
 fn is_action(act: &Act, facts: u32) -> bool
-    requires { facts ≤ 2048 }
+    requires { facts ≤ most_facts }
     ensures { result ≡ is_action facts act.now }
 {
     are_rising(act.pre(), 2 * facts) && are_effects(act.effects(), facts)
 }
 
 pub(crate) fn are_actions(acts: &[Act], facts: u32) -> bool
-    requires { facts ≤ 2048 }
+    requires { facts ≤ most_facts }
     ensures { result ≡ list_all (is_action facts) acts.now }
 {
     acts.iter().all(|act| is_action(act, facts))
 }
 
 pub(crate) fn has_few_conditional(acts: &[Act]) -> bool
-    ensures { result ≡ nat_le (conditional_in acts.now) 65536 }
+    ensures { result ≡ nat_le (conditional_in acts.now) most_conditional }
 {
-    let mut left = 65536;
+    let mut left = MOST_CONDITIONAL as usize;
     for act in acts {
         let count = act.conditional();
         if count > left {
@@ -102,7 +104,7 @@ pub(crate) fn has_few_conditional(acts: &[Act]) -> bool
 
 /// How many effects of these actions have a condition.
 pub(crate) fn conditional_in(acts: &[Act]) -> u32
-    requires { conditional_in acts.now ≤ 65536 }
+    requires { conditional_in acts.now ≤ most_conditional }
     ensures { result ≡ conditional_in acts.now }
 {
     let mut count = 0;

@@ -11,6 +11,7 @@ mod clause_list;
 pub mod eff;
 mod lawful;
 pub mod laws;
+pub mod limits;
 pub mod lits;
 pub mod pairs;
 pub mod task;

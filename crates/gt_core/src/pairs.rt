@@ -1,4 +1,5 @@
 //! Clauses of one or two fact literals that are known of the states of a task.
+ghost use Rattle.gt_core.specs.Limits.{most_facts};
 
 use crate::clause_list::{in_order, make_room, mark, put_in};
 use bit_sets::row::{BitRow, empty_rows};
@@ -42,7 +43,7 @@ impl Pairs {
 
     /// The set without a clause, over so many facts.
     pub fn empty(alloc: Global, facts: u32) -> Result<Pairs, Memory>
-        requires { facts ≤ 2048 }
+        requires { facts ≤ most_facts }
         ensures { IfOk result (λ pairs. pairs ≡ record { facts = facts; clauses = [] }) }
     {
         Ok(Pairs {

@@ -4,10 +4,12 @@ ghost use Rattle.std.specs.Prelude.{◌≡◌, ℕ, ◌+◌, ◌*◌, ◌/◌, �
 ghost use Rattle.std.specs.List.{AllByRecursion, list_any};
 ghost use Rattle.gt_core.specs.Literal.{holds, all_hold, state_of};
 ghost use Rattle.gt_core.specs.Active.{is_active, EffectWithin};
+ghost use Rattle.gt_core.specs.Limits.{most_conditional};
 
 use crate::act::{Act, Acts};
 use crate::eff::Eff;
 use crate::lawful::{are_actions, are_rising, conditional_in, has_few_conditional};
+use crate::limits::{MOST_ACTIONS, MOST_FACTS};
 use crate::lits::{Bits, Lits};
 use containers::let_go;
 use std::marker::Model;
@@ -67,7 +69,10 @@ impl Task {
         ensures { let task : TaskValue = record { facts = facts; initial = init; goal = goal; hopeless = hopeless; actions = acts } in
             result ≡ (if is_task task then Some task else None) }
     {
-        if facts > 2048 || acts.as_slice().len() > 16384 || !has_few_conditional(acts.as_slice()) {
+        if u64::from(facts) > MOST_FACTS
+            || acts.as_slice().len() as u64 > MOST_ACTIONS
+            || !has_few_conditional(acts.as_slice())
+        {
             return None;
         }
         if init.as_slice().len() != facts as usize
@@ -128,7 +133,7 @@ impl Task {
     /// How many effects of the actions have a condition.
     pub fn conditional(&self) -> u32
         ensures conditional { result ≡ conditional_in self.now.actions }
-        ensures few { result ≤ 65536 }
+        ensures few { result ≤ most_conditional }
     {
         conditional_in(self.acts())
     }

@@ -1,5 +1,6 @@
 ghost use Rattle.std.specs.Prelude.{◌≡◌, ◌+◌, ◌<◌, ◌≤◌, ◌↔◌, ◌⊎◌, [], ◌∷◌, ◌++◌, length, drop, filter, nat_lt, slice_get, Contains, IsTrue, IsNone, IfNone, IfSome, Some};
 ghost use Rattle.horizon_rates.specs.Horizons.{listed, IsLastListed};
+ghost use Rattle.horizon_rates.specs.Limits.{last_horizon};
 
 use crate::Rates;
 use std::marker::Model;
@@ -55,7 +56,7 @@ impl Window {
         ensures taken { IfSome result (λ h. self.new
             ≡ record self.old { live = self.old.live ++ h ∷ []; next = self.old.next + 1 }) }
         ensures at_most_max { IfSome result (λ h. h ≤ self.old.rates.max) }
-        ensures small { IfSome result (λ h. h ≤ 255) }
+        ensures small { IfSome result (λ h. h ≤ last_horizon) }
     {
         if self.count >= self.rates.width {
             return None;
@@ -71,7 +72,7 @@ impl Window {
         ensures value { result ≡ listed self.now.rates self.now.next }
         ensures window { IsWindow self.now }
         ensures at_most_max { IfSome result (λ h. h ≤ self.now.rates.max) }
-        ensures small { IfSome result (λ h. h ≤ 255) }
+        ensures small { IfSome result (λ h. h ≤ last_horizon) }
     {
         self.rates.nth(self.first + self.count)
     }
@@ -90,7 +91,7 @@ impl Window {
         ensures value { result ≡ slice_get self.now.live place }
         ensures window { IsWindow self.now }
         ensures at_most_max { IfSome result (λ h. h ≤ self.now.rates.max) }
-        ensures small { IfSome result (λ h. h ≤ 255) }
+        ensures small { IfSome result (λ h. h ≤ last_horizon) }
     {
         if place >= self.count {
             return None;

@@ -6,6 +6,7 @@ ghost use Rattle.cdcl_defs.specs.Sound.{made_true};
 ghost use Rattle.rup_check.specs.Certificate.{Certifies};
 ghost use Rattle.step_encoding.specs.{Limits.planner_literals, Numbers.literals_of};
 ghost use Rattle.horizon_run.specs.Run.{choice_in, choice_of, moved_to, truths_of, IsMoved, IsNew, IsReached, AddsUp, Stays};
+ghost use Rattle.horizon_rates.specs.Limits.{last_horizon};
 
 use crate::unmade::Unmade;
 use cdcl_core::solver::Solver;
@@ -60,7 +61,7 @@ impl HorizonRun {
         n: u32,
     ) -> Result<HorizonRun, Memory>
         requires form_of { F.task form.now ≡ task.now }
-        requires horizon { n ≤ 255 }
+        requires horizon { n ≤ last_horizon }
         requires size { literals_of (F.formula_of form.now n) ≤ planner_literals }
         ensures start { IfOk result (λ run. IsNew run) }
         ensures formula { IfOk result (λ run. run.formula ≡ F.formula_of form.now n) }

@@ -6,6 +6,7 @@ ghost use Rattle.formula_defs.specs.Layout.{variables};
 ghost use Rattle.goal_choice.specs.Means.{gathered_of};
 ghost use Rattle.step_encoding.specs.{Limits.planner_literals, Numbers.literals_of};
 ghost use Rattle.horizon_run.specs.Run.{choice_in, choice_of, IsNew, IsReached, Stays};
+ghost use Rattle.horizon_rates.specs.Limits.{last_horizon};
 
 use crate::run::HorizonRun;
 use cdcl_core::solver::Solver;
@@ -75,7 +76,7 @@ impl Unmade {
         n: u32,
     ) -> Result<Unmade, Memory>
         requires supporters { supporters.now ≡ gathered_of (F.task form.now) }
-        requires horizon { n ≤ 255 }
+        requires horizon { n ≤ last_horizon }
         requires size { literals_of (F.formula_of form.now n) ≤ planner_literals }
         ensures start { IfOk result (λ run. IsNew run) }
         ensures formula { IfOk result (λ run. run.formula ≡ F.formula_of form.now n) }

@@ -1,6 +1,7 @@
 use Rattle.std.specs.Prelude.{◌≡◌, ℕ, zero, suc, ◌+◌, ◌*◌, ◌<◌, ◌≤◌, List, [], Bool, true, false, length, slice_index_or}
 use Rattle.bit_sets.specs.Rows.{row_has}
 use Rattle.gt_core.specs.Literal.{opposite}
+use Rattle.gt_core.specs.Limits.{most_facts}
 
 -- Clauses as rows of bits, one row a literal: the literals that stand in a clause with it, and itself where it is a
 -- clause alone.
@@ -15,7 +16,7 @@ clause_in rows l m = row_has (row_at rows l) m
 
 -- each clause is over literals of so many facts
 pub record AreRows (facts : ℕ) (rows : List (List ℕ)) : Type 0 where
-  pub few : facts ≤ 2048
+  pub few : facts ≤ most_facts
   pub long : length rows ≡ 2 * facts
   pub within : (l m : ℕ) → clause_in rows l m ≡ true → m < 2 * facts
 

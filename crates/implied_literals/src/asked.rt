@@ -5,6 +5,7 @@ ghost use Rattle.std.specs.List.{list_any};
 ghost use Rattle.bit_sets.specs.Rows.{row_has};
 ghost use Rattle.implied_literals.specs.Rows.{row_at, clause_in, HasNoPair};
 ghost use Rattle.implied_literals.specs.Renewed.{asks};
+ghost use Rattle.gt_core.specs.Limits.{most_facts};
 
 use crate::known::Known;
 use bit_sets::row::BitRow;
@@ -76,7 +77,7 @@ fn first_row(alloc: Global, asked: &BitRow, l: u32) -> Result<BitRow, AllocError
 
 /// A row for each literal of so many facts, before anything is worked out.
 fn first_rows(alloc: Global, facts: u32, asked: &BitRow) -> Result<Vec<BitRow>, AllocError>
-    requires { facts ≤ 2048 }
+    requires { facts ≤ most_facts }
     ensures long { IfOk result (λ rows. length rows.items ≡ 2 * facts) }
     ensures asked { IfOk result (λ rows. (k : ℕ) → row_has asked.now k ≡ true → k < 2 * facts → HasNoPair (row_has (row_at rows.items k)) → ⊥) }
     ensures other { IfOk result (λ rows. (k m : ℕ) → row_has asked.now k ≡ false → clause_in rows.items k m ≡ false) }
@@ -91,7 +92,7 @@ fn first_rows(alloc: Global, facts: u32, asked: &BitRow) -> Result<Vec<BitRow>, 
 
 /// What stands for what is known before anything is worked out: what contradicts itself has to be.
 pub fn nothing_known(alloc: Global, facts: u32, asked: &BitRow) -> Result<Known, AllocError>
-    requires { facts ≤ 2048 }
+    requires { facts ≤ most_facts }
     ensures none { IfOk result (λ known. HasNoPair (row_has known.none) → ⊥) }
     ensures long { IfOk result (λ known. length known.rows.items ≡ 2 * facts) }
     ensures asked { IfOk result (λ known. (k : ℕ) → row_has asked.now k ≡ true → k < 2 * facts → HasNoPair (row_has (row_at known.rows.items k)) → ⊥) }

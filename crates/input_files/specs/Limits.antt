@@ -3,14 +3,11 @@ use Rattle.std.specs.Prelude.{◌≤◌, ℕ, ◌+◌, ◌==◌, List, [], ◌�
 use Rattle.requests.specs.Seen.{Seen, verifies, batches}
 use Rattle.plan_endings.specs.declared.ending.File.{File}
 use Rattle.plan_endings.specs.declared.ending.File.TheVariants.{Domain, Problem, Plan, Proof}
-
--- how many bytes a domain, a problem or a plan may have
-abbrev pub most_bytes : ℕ
-most_bytes = 1048576
+use Rattle.containers.specs.Limits.{certificate_bytes, most_bytes}
 
 -- how many bytes a file may have
 abbrev pub most_of : File → ℕ
-most_of Proof = 16777216
+most_of Proof = certificate_bytes
 most_of file = most_bytes
 
 -- what the files after the first two of a request are

@@ -1,7 +1,8 @@
 //! The files of a request, one by one.
 ghost use Rattle.std.specs.Prelude.{◌≡◌, ◌≤◌, ◌∷◌, [], length};
 ghost use Rattle.requests.specs.Seen.{seen};
-ghost use Rattle.input_files.specs.Limits.{most_bytes, most_of, third_of, file_at, AreShort};
+ghost use Rattle.containers.specs.Limits.{most_bytes};
+ghost use Rattle.input_files.specs.Limits.{most_of, third_of, file_at, AreShort};
 
 use pl_io::Bytes;
 use requests::Request;

@@ -13,6 +13,8 @@ use plan_endings::stop::Stop;
 use plan_endings::{Ending, File};
 use requests::Request;
 use std::alloc::Global;
+use containers::limits::CERTIFICATE_BYTES;
+use containers::limits::MOST_BYTES;
 
 /// What is kept of a file that a request names: its bytes; or, where it has more than it may have, nothing.
 pub trait Kept: Sized + Drop {
@@ -112,7 +114,7 @@ fn most_of(file: File) -> usize
     ensures some { 1 ≤ result }
 {
     match file {
-        File::Proof => 16_777_216,
-        _ => 1_048_576,
+        File::Proof => CERTIFICATE_BYTES as usize,
+        _ => MOST_BYTES,
     }
 }

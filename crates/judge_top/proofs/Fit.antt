@@ -12,16 +12,17 @@ use Rattle.requests.proofs.published.Ranges.{number_in}
 use Rattle.judge_top.specs.declared.command.Name.{Name}
 use Rattle.judge_top.specs.declared.command.Name.TheVariants.{Formula, Judge, Model}
 use Rattle.judge_top.specs.Command.{command_of, step_words, steps_list}
+use Rattle.horizon_rates.specs.Limits.{last_horizon}
 
 pub fit : (by : ValueParser) → TakesWords step_words by → (name : Name) → IsFit (command_of by name)
 fit by takes Formula = let e = one_passes step_words by (codes "exists") takes refl in record { simple = refl; leaf = refl; defaults = rw e refl; values = refl }
 fit by takes Judge = let e = one_passes step_words by (codes "exists") takes refl in record { simple = refl; leaf = refl; defaults = rw e refl; values = refl }
 fit by takes Model = let e = one_passes step_words by (codes "exists") takes refl in record { simple = refl; leaf = refl; defaults = rw e refl; values = refl }
 
-pub horizon_in : (by : ValueParser) (name : Name) (rows : List Row) → Passed (command_of by name).top.rules rows → HasNumber 0 255 (codes "horizon") rows
-horizon_in by Formula rows passed = number_in (command_of by Formula).top.rules rows passed (codes "horizon") _ 0 255 refl refl
-horizon_in by Judge rows passed = number_in (command_of by Judge).top.rules rows passed (codes "horizon") _ 0 255 refl refl
-horizon_in by Model rows passed = number_in (command_of by Model).top.rules rows passed (codes "horizon") _ 0 255 refl refl
+pub horizon_in : (by : ValueParser) (name : Name) (rows : List Row) → Passed (command_of by name).top.rules rows → HasNumber 0 last_horizon (codes "horizon") rows
+horizon_in by Formula rows passed = number_in (command_of by Formula).top.rules rows passed (codes "horizon") _ 0 last_horizon refl refl
+horizon_in by Judge rows passed = number_in (command_of by Judge).top.rules rows passed (codes "horizon") _ 0 last_horizon refl refl
+horizon_in by Model rows passed = number_in (command_of by Model).top.rules rows passed (codes "horizon") _ 0 last_horizon refl refl
 
 -- any reader of the kinds of steps makes the same commands, but for where the list lies
 pub as_list : (by : ValueParser) → TakesWords step_words by → (name : Name) → IsSame (command_of by name) (command_of steps_list name)

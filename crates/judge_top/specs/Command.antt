@@ -8,6 +8,7 @@ use Rattle.clap.specs.declared.builder.value_parser.ValueParser.TheVariants as r
 use Rattle.requests.specs.Arguments.{word, reading_word, option, one_among, with_rules}
 use Rattle.judge_top.specs.declared.command.Name.{Name}
 use Rattle.judge_top.specs.declared.command.Name.TheVariants.{Formula, Judge, Model}
+use Rattle.horizon_rates.specs.Limits.{last_horizon}
 
 -- The kinds of steps.
 abbrev pub step_words : List Text
@@ -25,7 +26,7 @@ word_of Model = codes "model"
 
 -- The word of the horizon.
 abbrev pub horizon_word : Rule
-horizon_word = reading_word (codes "horizon") (reader.Signed (pos 0) (pos 255))
+horizon_word = reading_word (codes "horizon") (reader.Signed (pos 0) (pos last_horizon))
 
 -- What follows that word: the words in their order, then the option.
 abbrev pub rules_of : ValueParser → Name → List Rule

@@ -1,8 +1,9 @@
 //! What the bytes of a domain and a problem, and a proof or a model, come to.
 ghost use Rattle.std.specs.Prelude.{◌≡◌, ◌≤◌, [], length, IfOk};
-ghost use Rattle.input_files.specs.Limits.{most_bytes};
+ghost use Rattle.containers.specs.Limits.{most_bytes};
 ghost use Rattle.plan_endings.specs.Ends.{OnlyMemory};
 ghost use Rattle.judge_top.specs.Answers.{EndsWith, tape_run, OnceReady, AnswersFormula, AnswersJudge, AnswersModel, IsBelow, IsSmallTold, ended_by, ended_with};
+ghost use Rattle.horizon_rates.specs.Limits.{last_horizon};
 
 use crate::Ended;
 use crate::formula::formula_by;
@@ -30,7 +31,7 @@ pub fn answer_formula<H: Threads + Sync>(
 ) -> Result<Ended, Stop>
     requires domain_fits { length domain.now ≤ most_bytes }
     requires problem_fits { length problem.now ≤ most_bytes }
-    requires horizon { horizon ≤ 255 }
+    requires horizon { horizon ≤ last_horizon }
     ensures { EndsWith (OnceReady domain.now problem.now (AnswersFormula steps horizon)) result }
 {
     let ready = read_ready(alloc, domain, problem)?;
@@ -51,7 +52,7 @@ pub fn answer_judge<H: Threads + Sync, T: Tape>(
 ) -> Result<Ended, Stop>
     requires domain_fits { length domain.now ≤ most_bytes }
     requires problem_fits { length problem.now ≤ most_bytes }
-    requires horizon { horizon ≤ 255 }
+    requires horizon { horizon ≤ last_horizon }
     requires opened { (T.given tape.old).1 ≡ [] }
     ensures ended { EndsWith (λ end. OnceReady domain.now problem.now (AnswersJudge steps horizon (tape_run (T.faults tape.old) (T.faults tape.new) (T.given tape.new))) end) result }
     ensures named { (T.given tape.new).0 ≡ (T.given tape.old).0 }
@@ -87,7 +88,7 @@ pub fn answer_model<H: Threads + Sync, T: Tape>(
 ) -> Result<Ended, Stop>
     requires domain_fits { length domain.now ≤ most_bytes }
     requires problem_fits { length problem.now ≤ most_bytes }
-    requires horizon { horizon ≤ 255 }
+    requires horizon { horizon ≤ last_horizon }
     requires opened { (T.given tape.old).1 ≡ [] }
     ensures ended { EndsWith (OnceReady domain.now problem.now (AnswersModel steps horizon (tape_run (T.faults tape.old) (T.faults tape.new) (T.given tape.new)))) result }
     ensures named { (T.given tape.new).0 ≡ (T.given tape.old).0 }

@@ -6,8 +6,12 @@ ghost use Rattle.judge_top.specs.Command.{command_of, named, step_words, word_of
 
 use clap::Command;
 use clap::builder::ValueParser;
+use horizon_rates::LAST_HORIZON;
 use requests::{Argument, put, with_all};
 use std::alloc::{AllocError, Global};
+
+// The greatest horizon, in the type of a command line's numbers.
+const GREATEST_HORIZON: i64 = LAST_HORIZON as i64;
 
 /// The commands, by the word that names each.
 #[derive(Clone, Copy)]
@@ -63,7 +67,7 @@ pub(crate) fn command_by<'a>(
         &[
             Argument::Word("domain"),
             Argument::Word("problem"),
-            Argument::Read("horizon", ValueParser::Signed(0, 255)),
+            Argument::Read("horizon", ValueParser::Signed(0, GREATEST_HORIZON)),
         ],
     )?;
     match name {

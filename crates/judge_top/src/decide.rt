@@ -2,11 +2,12 @@
 ghost use Rattle.std.specs.Prelude.{◌≡◌, ◌≤◌, ℕ, List, length, map, string_bytes, None, Ok};
 ghost use Rattle.pl_io.specs.Outside.{Agrees, fault_count};
 ghost use Rattle.input_files.specs.Files.{NotesAmong};
-ghost use Rattle.input_files.specs.Limits.{most_bytes};
+ghost use Rattle.containers.specs.Limits.{most_bytes};
 ghost use Rattle.judge_top.specs.Requested.{requested, command_named};
 ghost use Rattle.judge_top.specs.Seen.{seen, horizon_of};
 ghost use Rattle.judge_top.specs.Answers.{EndsWith, tape_run};
 ghost use Rattle.judge_top.specs.Causes.{Answers, OfModel, ComesFor, Comes, names_in, two_of};
+ghost use Rattle.horizon_rates.specs.Limits.{last_horizon};
 
 use crate::answer::{answer_formula, answer_judge, answer_model};
 use crate::verdict::open;
@@ -51,7 +52,7 @@ fn decide_request<H: Threads + Sync, S: Shelf, T: Tape>(
     shelf: &mut S,
     tape: &mut T,
 ) -> Result<Ended, Stop>
-    requires { horizon_of (seen request.now) ≤ 255 }
+    requires { horizon_of (seen request.now) ≤ last_horizon }
     ensures cause { EndsWith (ComesFor (S.heard shelf.old) (S.heard shelf.new) (S.failed shelf.old) (S.failed shelf.new) (tape_run (T.faults tape.old) (T.faults tape.new) (T.given tape.new)) (seen request.now)) result }
     ensures told { S.told shelf.new ≡ S.told shelf.old }
     ensures lacks { S.lacks shelf.new ≡ S.lacks shelf.old }
@@ -79,7 +80,7 @@ fn answer<H: Threads + Sync, T: Tape>(
 ) -> Result<Ended, Stop>
     requires domain_fits { length first.now ≤ most_bytes }
     requires problem_fits { length second.now ≤ most_bytes }
-    requires horizon { horizon_of (seen request.now) ≤ 255 }
+    requires horizon { horizon_of (seen request.now) ≤ last_horizon }
     ensures cause { EndsWith (λ end. Answers (tape_run (T.faults tape.old) (T.faults tape.new) (T.given tape.new)) (seen request.now) end first.now second.now) result }
     ensures tape_faults { T.faults tape.old ≤ T.faults tape.new }
 {
@@ -120,7 +121,7 @@ fn answer_opened<H: Threads + Sync, T: Tape>(
 ) -> Result<Ended, Stop>
     requires domain_fits { length first.now ≤ most_bytes }
     requires problem_fits { length second.now ≤ most_bytes }
-    requires horizon { horizon ≤ 255 }
+    requires horizon { horizon ≤ last_horizon }
     ensures cause { EndsWith (λ end. OfModel (tape_run (T.faults tape.old) (T.faults tape.new) (T.given tape.new)) steps horizon model.now end first.now second.now) result }
     ensures tape_faults { T.faults tape.old ≤ T.faults tape.new }
 {

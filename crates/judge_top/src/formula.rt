@@ -5,6 +5,7 @@ ghost use Rattle.step_encoding.specs.{Limits.most_literals, Numbers.literals_of}
 ghost use Rattle.plan_endings.specs.Ends.{StopsBy};
 ghost use Rattle.plan_tasks.specs.Stepping.{places_by, is_plan_by};
 ghost use Rattle.judge_top.specs.Answers.{OfKnown, IsFormula, IsTooMany, TellsTooMany};
+ghost use Rattle.horizon_rates.specs.Limits.{last_horizon};
 
 use action_order::publish::publish;
 use all_steps::form::BothWays;
@@ -28,7 +29,7 @@ pub fn formula_by<H: Threads + Sync>(
     task: &Task,
     horizon: u32,
 ) -> Result<Formula, Stop>
-    requires { horizon ≤ 255 }
+    requires { horizon ≤ last_horizon }
     ensures formula { IfOk result (λ formula. OfKnown task.now (IsFormula (places_by steps) (is_plan_by steps) horizon formula)) }
     ensures stops { StopsBy (TellsTooMany (places_by steps) horizon task.now) result }
 {
@@ -45,7 +46,7 @@ fn formula_in<P: Placing, H: Threads + Sync>(
     task: &Task,
     horizon: u32,
 ) -> Result<Formula, Stop>
-    requires { horizon ≤ 255 }
+    requires { horizon ≤ last_horizon }
     ensures formula { IfOk result (λ formula. OfKnown task.now (IsFormula P.places P.are_plan horizon formula)) }
     ensures stops { StopsBy (TellsTooMany P.places horizon task.now) result }
 {
@@ -57,7 +58,7 @@ fn formula_in<P: Placing, H: Threads + Sync>(
 
 /// The formula of a horizon of a form.
 pub fn formula_of<F: StepForm>(alloc: Global, form: &F, horizon: u32) -> Result<Formula, Stop>
-    requires { horizon ≤ 255 }
+    requires { horizon ≤ last_horizon }
     ensures formula { IfOk result (λ formula. formula ≡ F.formula_of form.now horizon) }
     ensures refutes { IfOk result (λ formula. IsUnsatisfiable formula.clauses → (steps : List (List ℕ)) → F.is_plan form.now horizon steps → ⊥) }
     ensures small { IfOk result (λ formula. literals_of (F.formula_of form.now horizon) ≤ most_literals) }

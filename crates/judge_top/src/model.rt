@@ -8,6 +8,7 @@ ghost use Rattle.step_encoding.specs.{Limits.most_literals, Numbers.literals_of}
 ghost use Rattle.sat_text.specs.Values.{Values as values_read, model_of};
 ghost use Rattle.sat_text.specs.Stands.{HasRead};
 ghost use Rattle.judge_top.specs.Answers.{TapeRun, tape_run, OfKnown, IsTold, IsToldOf, IsBelow, IsGiven, IsTooMany, TellsTooMany};
+ghost use Rattle.horizon_rates.specs.Limits.{last_horizon};
 
 use crate::formula::formula_of;
 use action_order::publish::publish;
@@ -97,7 +98,7 @@ fn told_values<F: StepForm>(
     formula: &Formula,
     values: &[bool],
 ) -> Result<Told, Memory>
-    requires horizon { horizon ≤ 255 }
+    requires horizon { horizon ≤ last_horizon }
     requires small { literals_of (F.formula_of form.now horizon) ≤ most_literals }
     requires formula { formula.now ≡ F.formula_of form.now horizon }
     requires long { length values.now ≡ formula.now.variables }
@@ -121,7 +122,7 @@ fn told_of<F: StepForm, T: Tape>(
     horizon: u32,
     tape: &mut T,
 ) -> Result<Told, Stop>
-    requires horizon { horizon ≤ 255 }
+    requires horizon { horizon ≤ last_horizon }
     requires opened { (T.given tape.old).1 ≡ [] }
     ensures told { IfOk result (IsToldOf (F.formula_of form.now horizon) (F.stands_for form.now horizon) (tape_run (T.faults tape.old) (T.faults tape.new) (T.given tape.new))) }
     ensures named { (T.given tape.new).0 ≡ (T.given tape.old).0 }
@@ -148,7 +149,7 @@ fn told_in<P: Placing, H: Threads + Sync, T: Tape>(
     horizon: u32,
     tape: &mut T,
 ) -> Result<Told, Stop>
-    requires horizon { horizon ≤ 255 }
+    requires horizon { horizon ≤ last_horizon }
     requires opened { (T.given tape.old).1 ≡ [] }
     ensures told { IfOk result (λ told. OfKnown task.now (IsTold P.places horizon (tape_run (T.faults tape.old) (T.faults tape.new) (T.given tape.new)) told)) }
     ensures named { (T.given tape.new).0 ≡ (T.given tape.old).0 }
@@ -172,7 +173,7 @@ pub fn told_by<H: Threads + Sync, T: Tape>(
     horizon: u32,
     tape: &mut T,
 ) -> Result<Told, Stop>
-    requires horizon { horizon ≤ 255 }
+    requires horizon { horizon ≤ last_horizon }
     requires opened { (T.given tape.old).1 ≡ [] }
     ensures told { IfOk result (λ told. OfKnown task.now (IsTold (places_by steps) horizon (tape_run (T.faults tape.old) (T.faults tape.new) (T.given tape.new)) told)) }
     ensures named { (T.given tape.new).0 ≡ (T.given tape.old).0 }

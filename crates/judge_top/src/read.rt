@@ -17,6 +17,7 @@ ghost use Rattle.requests.specs.Same.{IsSame};
 ghost use Rattle.judge_top.specs.Command.{command_of, named, steps_list};
 ghost use Rattle.judge_top.specs.Requested.{some_in};
 ghost use Rattle.judge_top.specs.Seen.{Seen, seen, horizon_of};
+ghost use Rattle.horizon_rates.specs.Limits.{last_horizon};
 
 use crate::command::{Name, command_by, name_of, steps_reader};
 use crate::request::Request;
@@ -32,13 +33,13 @@ impl<'a> Asked<'a> for Request<'a> {
 
     ghost seen = { seen };
 
-    ghost is_sized = { λ request. horizon_of request ≤ 255 };
+    ghost is_sized = { λ request. horizon_of request ≤ last_horizon };
 
     ghost named = { named };
 
     ghost command = { command_of steps_list };
 
-    ghost has_values = { λ _ rows. HasNumber 0 255 (codes "horizon") rows };
+    ghost has_values = { λ _ rows. HasNumber 0 last_horizon (codes "horizon") rows };
 
     ghost seen_in = { some_in };
 
@@ -51,7 +52,7 @@ impl<'a> Asked<'a> for Request<'a> {
     fn command_for(alloc: Global, name: Name) -> Result<Command<'a>, AllocError>
         ensures fit { IfOk result (λ c. IsFit (app_of c)) }
         ensures same { IfOk result (λ c. IsSame (app_of c) (command_of steps_list name)) }
-        ensures values { IfOk result (λ c. (rows : List Row) → Passed (app_of c).top.rules rows → HasNumber 0 255 (codes "horizon") rows) }
+        ensures values { IfOk result (λ c. (rows : List Row) → Passed (app_of c).top.rules rows → HasNumber 0 last_horizon (codes "horizon") rows) }
     {
         command_by(alloc, name, steps_reader())
     }
@@ -61,9 +62,9 @@ impl<'a> Asked<'a> for Request<'a> {
         name: Name,
         matches: &ArgMatches<'a>,
     ) -> Result<Option<Request<'a>>, Memory>
-        requires { HasNumber 0 255 (codes "horizon") (rows_of (found_of matches.now)) }
+        requires { HasNumber 0 last_horizon (codes "horizon") (rows_of (found_of matches.now)) }
         ensures value { IfOk result (λ o. option_map seen o ≡ some_in name (rows_of (found_of matches.now))) }
-        ensures sized { IfOk result (λ o. IfSome o (λ r. horizon_of (seen r) ≤ 255)) }
+        ensures sized { IfOk result (λ o. IfSome o (λ r. horizon_of (seen r) ≤ last_horizon)) }
     {
         Ok(Some(request_in(name, matches)))
     }

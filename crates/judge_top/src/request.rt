@@ -4,7 +4,7 @@ ghost use Rattle.judge_top.specs.Seen.{seen, domain_of, problem_of};
 
 use requests::Stepping;
 
-/// What is asked for, of a horizon from 0 to 255. A file is named by its word.
+/// What is asked for, of a horizon from 0 to the greatest one. A file is named by its word.
 #[derive(Clone, Copy)]
 pub enum Request<'a> {
     /// The formula of the horizon.

@@ -2,6 +2,7 @@
 //! of their chains in one step. What is due, a plain listing by the definition of the clauses wrote.
 
 ghost use Rattle.std.specs.Prelude.{◌≤◌};
+ghost use Rattle.horizon_rates.specs.Limits.{last_horizon};
 
 use crate::formulas::{put_clause, put_counts};
 use crate::lines::{Out, keep, put};
@@ -68,7 +69,7 @@ fn put_touching(out: &mut Out, formula: &Formula, first: u64, end: u64) {
 
 /// Writes how large the formula of a horizon is.
 fn put_size<F: StepForm>(out: &mut Out, form: &F, n: u32)
-    requires { n ≤ 255 }
+    requires { n ≤ last_horizon }
 {
     match form.formula(out.alloc, n) {
         Ok(formula) => put_counts(out, SIZE, &formula, form.size(n)),

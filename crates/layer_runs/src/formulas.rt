@@ -6,6 +6,7 @@ ghost use Rattle.std.specs.Prelude.{◌≡◌, ◌≤◌, IfOk};
 ghost use Rattle.gt_core.specs.Published.{IsPublished};
 ghost use Rattle.gt_core.specs.Reached.{HoldsWherever};
 ghost use Rattle.step_encoding.specs.{Limits.most_literals, Numbers.literals_of};
+ghost use Rattle.horizon_rates.specs.Limits.{last_horizon};
 
 use crate::known::{kept_order, pairs_of};
 use crate::lines::{Out, put, put_all};
@@ -17,6 +18,7 @@ use clause_base::view::View;
 use containers::memory::Memory;
 use gt_core::pairs::Pairs;
 use gt_core::task::Task;
+use horizon_rates::LAST_HORIZON;
 use std::alloc::AllocError;
 use step_encoding::exists::Components;
 use step_encoding::form::StepForm;
@@ -65,7 +67,7 @@ fn put_formula(out: &mut Out, formula: &Formula) {
 
 /// Writes how many variables a horizon has of each kind.
 fn put_layout<F: StepForm>(out: &mut Out, form: &F, n: u32)
-    requires horizon { n ≤ 255 }
+    requires horizon { n ≤ last_horizon }
     requires size { literals_of (F.formula_of form.now n) ≤ most_literals }
 {
     let z = form.layout(n);
@@ -86,7 +88,7 @@ fn put_steps(out: &mut Out, made: Option<Steps>) {
 
 /// Writes a horizon's formula, and the steps of an assignment where it satisfies it.
 fn put_horizon<F: StepForm>(out: &mut Out, form: &F, n: u32, values: &[bool])
-    requires { n ≤ 255 }
+    requires { n ≤ last_horizon }
 {
     let Ok(formula) = form.formula(out.alloc, n) else {
         return out.fail();
@@ -105,7 +107,7 @@ fn put_form<F: StepForm>(out: &mut Out, form: &F, n: u32, values: &[bool]) {
     for k in 0..4 {
         put(out, "size # #\n", &[k as u64, form.size(k)]);
     }
-    put_horizon(out, form, n.min(255), values);
+    put_horizon(out, form, n.min(LAST_HORIZON), values);
 }
 
 /// Writes what was asked of the form of a task whose chains go where `P` says, under its name.

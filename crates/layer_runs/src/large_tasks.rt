@@ -3,6 +3,7 @@
 //! in rooms, `bench/reference/formulas` wrote, from the definition of the clauses alone. A body that gives up past some size fails there.
 
 ghost use Rattle.std.specs.Prelude.{◌≡◌, ◌<◌, ◌≤◌, IfOk};
+ghost use Rattle.horizon_rates.specs.Limits.{last_horizon};
 
 use crate::formulas::put_counts;
 use crate::known::{kept_order, pairs_of};
@@ -13,6 +14,7 @@ use clause_base::view::View;
 use containers::memory::Memory;
 use gt_core::pairs::Pairs;
 use gt_core::task::Task;
+use horizon_rates::LAST_HORIZON;
 use std::thread::Threads;
 use step_encoding::exists::ExistsForm;
 use step_encoding::form::StepForm;
@@ -49,7 +51,7 @@ fn sum_of(formula: &Formula) -> u64 {
     sum
 }
 
-/// The sizes of all horizons up to 255, added up; past 2^64 - 1, that.
+/// The sizes of all horizons up to the greatest one, added up; past 2^64 - 1, that.
 fn all_sizes<F: StepForm>(form: &F) -> u64 {
     let mut sum: u64 = 0;
     for n in 0..256 {
@@ -60,7 +62,7 @@ fn all_sizes<F: StepForm>(form: &F) -> u64 {
 
 /// Builds a formula, and writes how many literals and clauses it has and what they sum up to.
 fn put_formula<F: StepForm>(out: &mut Out, form: &F, n: u32)
-    requires { n ≤ 255 }
+    requires { n ≤ last_horizon }
 {
     let Ok(formula) = form.formula(out.alloc, n) else {
         return out.fail();
@@ -70,9 +72,9 @@ fn put_formula<F: StepForm>(out: &mut Out, form: &F, n: u32)
     put(out, ", sum #\n", &[sum_of(&formula)]);
 }
 
-/// Builds the formula of a horizon from 1 to 255, and so many times adds up the sizes of all horizons.
+/// Builds the formula of a horizon from 1 to the greatest one, and so many times adds up the sizes of all horizons.
 fn put_form<F: StepForm>(out: &mut Out, form: &F, horizon: u32, sizes: u32) {
-    if 0 < horizon && horizon <= 255 {
+    if 0 < horizon && horizon <= LAST_HORIZON {
         put_formula(out, form, horizon);
     }
     let (one, two) = (form.size(1), form.size(2));
@@ -82,7 +84,7 @@ fn put_form<F: StepForm>(out: &mut Out, form: &F, horizon: u32, sizes: u32) {
     }
 }
 
-/// Makes the published order under pairs and the form, builds the formula of a horizon from 1 to 255, and so many times adds up the
+/// Makes the published order under pairs and the form, builds the formula of a horizon from 1 to the greatest one, and so many times adds up the
 /// sizes of all horizons.
 fn put_task(out: &mut Out, task: &Task, made: Result<Pairs, Memory>, horizon: u32, sizes: u32)
     requires { IfOk made (λ pairs. pairs.facts ≡ task.now.facts) }
@@ -101,7 +103,7 @@ fn put_task(out: &mut Out, task: &Task, made: Result<Pairs, Memory>, horizon: u3
 
 /// Takes the task of a robot in rooms with lamps, of which it is known that each is on or off and not both. Writes how many literals
 /// and clauses the formula of a horizon has, and a number that depends on each literal and on its place; of horizon 0, nothing. So
-/// many times it adds up the sizes of all horizons up to 255.
+/// many times it adds up the sizes of all horizons up to the greatest one.
 pub(crate) fn put_rooms(out: &mut Out, count: u32, horizon: u32, sizes: u32) {
     let Ok(Some(task)) = rooms(out.alloc, count) else {
         return out.fail();

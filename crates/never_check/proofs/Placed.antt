@@ -11,6 +11,7 @@ use Rattle.gt_core.specs.Literal.{is_in, range, range_from}
 use Rattle.gt_core.proofs.published.Basics.{Among, passing, any_at, same_test, test_same, not_true, apart, same_if}
 use Rattle.gt_core.proofs.published.Literals.{in_among, among_in, among_range}
 use Rattle.never_check.specs.Trail.{Reached, ArePlaced}
+use Rattle.gt_core.specs.Limits.{most_facts}
 
 -- an element of a list is at some place
 pub place_of : (xs : List ℕ) (x : ℕ) → Among x xs → (k : ℕ) × (k < length xs) × (get_or xs k 0 ≡ x)
@@ -101,8 +102,8 @@ placed_push places literals lit place long are lt new = record {
     last k h le = let l = length-append literals (lit ∷ []) in omega (arith, l, h, le)
 
 pub pushed : (places literals items : List ℕ) (facts lit place : ℕ) (trail : Reached) → record { facts = facts; literals = literals } ≡ trail → lit < 2 * trail.facts → is_in trail.literals lit ≡ false
-    → place ≡ length literals → ArePlaced places literals × (length places ≡ 2 * facts) × (facts ≤ 2048) → items ≡ literals ++ lit ∷ []
-    → ArePlaced (set places lit place) items × (length (set places lit place) ≡ 2 * facts) × (facts ≤ 2048)
+    → place ≡ length literals → ArePlaced places literals × (length places ≡ 2 * facts) × (facts ≤ most_facts) → items ≡ literals ++ lit ∷ []
+    → ArePlaced (set places lit place) items × (length (set places lit place) ≡ 2 * facts) × (facts ≤ most_facts)
 pushed places literals items facts lit place trail view lt new long are more =
     let size = ap (λ (r : Reached). r.facts) view in
     let same = ap (λ (r : Reached). r.literals) view in

@@ -20,7 +20,7 @@ impl Model for Trail {
 
     ghost view = { λ t. record { facts = t.facts; literals = t.literals.items } };
 
-    ghost invariant = { λ t. ArePlaced t.places.items t.literals.items × (length t.places.items ≡ 2 * t.facts) × (t.facts ≤ 2048) };
+    ghost invariant = { λ t. ArePlaced t.places.items t.literals.items × (length t.places.items ≡ 2 * t.facts) × (t.facts ≤ most_facts) };
 }
 
 /// Letting one go is one call, in which its parts go.
@@ -37,6 +37,7 @@ impl Drop for Trail {
 ghost use Rattle.std.specs.Prelude.{◌≡◌, ◌<◌, length};
 ghost use Rattle.gt_core.specs.Literal.{is_in};
 ghost use Rattle.never_check.specs.Trail.{ArePlaced};
+ghost use Rattle.gt_core.specs.Limits.{most_facts};
 
 /// Whether a literal stands among others, at its place.
 fn stands(places: &[u32], literals: &[u32], lit: u32) -> bool
@@ -55,7 +56,7 @@ impl Trail {
 
     /// No literals yet, of those of so many facts.
     pub fn new(alloc: Global, facts: u32) -> Result<Trail, Memory>
-        requires { facts ≤ 2048 }
+        requires { facts ≤ most_facts }
         ensures { IfOk result (λ trail. trail ≡ record { facts = facts; literals = [] }) }
     {
         Ok(Trail {
@@ -77,7 +78,7 @@ impl Trail {
     pub fn len(&self) -> usize
         ensures is { result ≡ length self.now.literals }
         ensures few { result ≤ 2 * self.now.facts }
-        ensures small { self.now.facts ≤ 2048 }
+        ensures small { self.now.facts ≤ most_facts }
     {
         self.literals.len()
     }

@@ -4,6 +4,7 @@ ghost use Rattle.std.specs.Prelude.{◌≡◌, ℕ, ◌*◌, ◌<◌, ◌≤◌,
 ghost use Rattle.std.specs.List.{AllByRecursion};
 ghost use Rattle.gt_core.specs.Literal.{is_in};
 ghost use Rattle.never_check.specs.Follow.{AreBelow, AreUses};
+ghost use Rattle.gt_core.specs.Limits.{most_facts};
 
 use containers::equal::empty_lists;
 use containers::memory::Memory;
@@ -39,7 +40,7 @@ pub fn uses_of(
     facts: u32,
     clauses: &FlatLists<u32>,
 ) -> Result<Vec<ListOf<u32>>, Memory>
-    requires facts { facts ≤ 2048 }
+    requires facts { facts ≤ most_facts }
     requires few { length clauses.now ≤ 16777216 }
     requires over { AllByRecursion (AreBelow (2 * facts)) clauses.now }
     ensures { IfOk result (λ uses. AreUses (2 * facts) clauses.now uses.items) }

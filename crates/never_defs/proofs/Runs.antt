@@ -35,13 +35,13 @@ module _ (task : Task) (known : List (ℕ × ℕ)) where
       omega (arith, rest, here)
 
 pub forward_has_no_run : ForwardSetHasNoRun
-forward_has_no_run task known clauses holds is ks can goal = forward_from task known clauses is (initial_state task) ks holds is.initial can goal
+forward_has_no_run task known clauses holds is ks run = forward_from task known clauses is (initial_state task) ks holds is.initial run.runs run.reaches
 
 pub backward_has_no_run : BackwardSetHasNoRun
-backward_has_no_run task known clauses holds is ks can goal = is.initial (backward_from task known clauses is (initial_state task) ks holds can goal)
+backward_has_no_run task known clauses holds is ks run = is.initial (backward_from task known clauses is (initial_state task) ks holds run.runs run.reaches)
 
 pub weights_have_no_run : WeightsHaveNoRun
-weights_have_no_run task known weights holds are ks can goal =
-    let falls = weights_from task known weights are (initial_state task) ks holds can in
-    let rises = are.goal (run task (initial_state task) ks) (holds ks can) goal in
+weights_have_no_run task known weights holds are ks to_goal =
+    let falls = weights_from task known weights are (initial_state task) ks holds to_goal.runs in
+    let rises = are.goal (run task (initial_state task) ks) (holds ks to_goal.runs) to_goal.reaches in
     omega (arith, falls, rises)

@@ -1,16 +1,12 @@
 -- What sets of clauses and weights are good for: no actions lead to the goal, however many.
 use Rattle.std.specs.Prelude.{ℕ, List, []}
-use Rattle.gt_core.specs.Task.{Task, initial_state}
-use Rattle.gt_core.specs.Execution.{CanRun, run, IsGoal}
+use Rattle.gt_core.specs.Task.{Task}
+use Rattle.gt_core.specs.Laws.{HasNoRun}
 use Rattle.gt_core.specs.Reached.{HoldsWherever}
 use Rattle.never_defs.specs.Sets.{IsForwardSet, IsBackwardSet, AreWeights}
 use Rattle.never_defs.specs.Forward.{IsForwardCertificate, GoalPassesForward}
 use Rattle.never_defs.specs.Backward.{IsBackwardCertificate}
 use Rattle.never_defs.specs.Weights.{AreWeightsCertified}
-
--- no actions that run one after the other from the initial state reach the goal
-abbrev pub HasNoRun : Task → Type 0
-HasNoRun task = (ks : List ℕ) → CanRun task (initial_state task) ks → IsGoal task (run task (initial_state task) ks) → ⊥
 
 -- what passes the check is such a set, or such weights
 abbrev pub ForwardCertificatesHold : Type 0

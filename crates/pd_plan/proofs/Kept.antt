@@ -22,6 +22,7 @@ use Rattle.pd_plan.proofs.Steps.{after-one}
 use Rattle.pd_plan.specs.Tokens.{Token, opening, closing, word, wrong, sign, joined, tokens}
 use Rattle.pd_plan.specs.WordLists.{word_list, lists, list_on, word_lists}
 use Rattle.pd_plan.specs.PlanFile.{argument, arguments, call_from, call_of, calls_of}
+use Rattle.containers.specs.Limits.{most_bytes}
 
 -- ---- calls
 
@@ -145,7 +146,7 @@ pub are_calls_of : (p : Parts) (ls : List WordList) (result : Result (List Call)
 are_calls_of p ls (Ok calls) is = ok_is (λ (calls : List Call). IsTrue (list_all (is_call p) calls)) (calls_of p ls) calls is (all_calls p ls)
 are_calls_of p ls (Err e) is = tt
 
-pub few_of : (p : Parts) (bytes : List ℕ) (ls : List WordList) (result : Result (List Call) PlanFault) → length bytes ≤ 1048576 → word_lists bytes ≡ Ok ls → Gives (calls_of p ls) result
+pub few_of : (p : Parts) (bytes : List ℕ) (ls : List WordList) (result : Result (List Call) PlanFault) → length bytes ≤ most_bytes → word_lists bytes ≡ Ok ls → Gives (calls_of p ls) result
     → IfOk result (λ calls. length calls < 4294967296)
 few_of p bytes ls (Ok calls) limit are is =
     let same = ok_is (λ (calls : List Call). length calls ≡ length ls) (calls_of p ls) calls is (as_many p ls) in

@@ -11,6 +11,7 @@ ghost use Rattle.std.specs.List.{list_all};
 ghost use Rattle.pd_model.specs.Fits.{is_call};
 ghost use Rattle.pd_plan.specs.own.Answers.{Gives};
 ghost use Rattle.pd_plan.specs.PlanFile.{plan_file};
+ghost use Rattle.containers.specs.Limits.{most_bytes};
 
 mod calls;
 mod fault;
@@ -34,7 +35,7 @@ use std::alloc::Global;
 /// the list where the objects are not as many as the parameters, and object by object `Unknown` where it is
 /// not declared and `Mistyped` where it does not fit its parameter.
 pub fn read_plan(alloc: Global, bytes: &[u8], pddl: &Pddl) -> Result<Calls, PlanFault>
-    requires { length bytes.now ≤ 1048576 }
+    requires { length bytes.now ≤ most_bytes }
     ensures plan { Gives (plan_file pddl.now bytes.now) result }
     ensures are_calls { IfOk result (λ calls. IsTrue (list_all (is_call pddl.now) calls)) }
     ensures few { IfOk result (λ calls. length calls < 2 ^ 32) }

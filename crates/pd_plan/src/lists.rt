@@ -2,6 +2,7 @@
 ghost use Rattle.std.specs.Prelude.{◌≡◌, ◌≤◌, length};
 ghost use Rattle.pd_plan.specs.own.Answers.{GivesAs};
 ghost use Rattle.pd_plan.specs.WordLists.{word_lists};
+ghost use Rattle.containers.specs.Limits.{most_bytes};
 
 use crate::PlanFault;
 use crate::reader::Reader;
@@ -23,7 +24,7 @@ pub struct WordList {
 
 /// Reads the lists of words, in one pass over the bytes.
 pub fn read_lists(alloc: Global, bytes: &[u8]) -> Result<Vec<WordList>, PlanFault>
-    requires { length bytes.now ≤ 1048576 }
+    requires { length bytes.now ≤ most_bytes }
     ensures { GivesAs (λ lists. lists.items) (word_lists bytes.now) result }
 {
     let mut reader = Reader::new(alloc);

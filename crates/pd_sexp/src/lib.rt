@@ -13,6 +13,7 @@ ghost use Rattle.std.specs.Prelude.{◌≡◌, ◌≤◌, ℕ, IfOk, IsTrue, len
 ghost use Rattle.pd_sexp.specs.Fault.{Reads, IsFault, syntax, deep};
 ghost use Rattle.pd_sexp.specs.View.{view};
 ghost use Rattle.pd_sexp.specs.Word.{has_words};
+ghost use Rattle.containers.specs.Limits.{most_bytes};
 
 mod kinds;
 mod lexer;
@@ -31,7 +32,7 @@ pub use tree::{Name, Tree, TreeError, Trees};
 /// bytes before it, or at the length where the list is not closed or is missing. `Deep` is told at the
 /// first parenthesis that opens a list of the 65th level. Of the two, the one at the smaller place.
 pub fn read_tree(alloc: Global, bytes: &[u8]) -> Result<Tree, TreeError>
-    requires { length bytes.now ≤ 1048576 }
+    requires { length bytes.now ≤ most_bytes }
     ensures read { IfOk result (λ tree. Reads bytes.now (view tree)) }
     ensures words { IfOk result (λ tree. IsTrue (has_words (view tree))) }
     ensures syntax { (at : ℕ) → result ≡ Err (TreeError.Syntax at) → IsFault bytes.now (syntax at) }

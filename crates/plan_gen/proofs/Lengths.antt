@@ -9,6 +9,7 @@ use Rattle.plan_gen.specs.Numbered.{numbered}
 use Rattle.plan_gen.specs.Corridor.{corridor_problem, doors}
 use Rattle.plan_gen.specs.Gripper.{gripper_problem}
 use Rattle.plan_gen.specs.Task.{domain_of, problem_of}
+use Rattle.containers.specs.Limits.{most_bytes}
 
 two_digits : (n : ℕ) → n ≤ 65 → length (decimal n) ≤ 2
 two_digits n small = length-decimal-le 2 n (omega arith) (omega arith) (omega arith)
@@ -28,14 +29,14 @@ doors_le (suc count) small =
     let second = two_digits (count + 1) (omega arith) in
     simp length-append (omega arith)
 
-corridor_le : (number : ℕ) → number ≤ 64 → length (corridor_problem number) ≤ 1048576
+corridor_le : (number : ℕ) → number ≤ 64 → length (corridor_problem number) ≤ most_bytes
 corridor_le number small =
     let digits = two_digits number (omega arith) in
     let rooms = numbered_le (codes " r") [] (omega arith) (omega arith) number small in
     let between = doors_le number small in
     simp length-append (omega arith)
 
-gripper_le : (number : ℕ) → number ≤ 64 → length (gripper_problem number) ≤ 1048576
+gripper_le : (number : ℕ) → number ≤ 64 → length (gripper_problem number) ≤ most_bytes
 gripper_le number small =
     let digits = two_digits number (omega arith) in
     let balls = numbered_le (codes " ball") [] (omega arith) (omega arith) number small in
@@ -44,10 +45,10 @@ gripper_le number small =
     let at_last = numbered_le (codes " (at ball") (codes " roomb)") (omega arith) (omega arith) number small in
     simp length-append (omega arith)
 
-pub domain_le : (kind : Kind) → length (domain_of kind) ≤ 1048576
-domain_le Corridor = leb-true (length (domain_of Corridor)) 1048576 refl
-domain_le Gripper = leb-true (length (domain_of Gripper)) 1048576 refl
+pub domain_le : (kind : Kind) → length (domain_of kind) ≤ most_bytes
+domain_le Corridor = leb-true (length (domain_of Corridor)) most_bytes refl
+domain_le Gripper = leb-true (length (domain_of Gripper)) most_bytes refl
 
-pub problem_le : (kind : Kind) (number : ℕ) → number ≤ 64 → length (problem_of kind number) ≤ 1048576
+pub problem_le : (kind : Kind) (number : ℕ) → number ≤ 64 → length (problem_of kind number) ≤ most_bytes
 problem_le Corridor number small = corridor_le number small
 problem_le Gripper number small = gripper_le number small

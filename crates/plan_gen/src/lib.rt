@@ -9,6 +9,7 @@
 
 ghost use Rattle.std.specs.Prelude.{◌≡◌, ◌≤◌, IfOk, length};
 ghost use Rattle.plan_gen.specs.Task.{domain_of, problem_of};
+ghost use Rattle.containers.specs.Limits.{most_bytes};
 
 mod corridor;
 mod gripper;
@@ -41,8 +42,8 @@ pub fn generate(alloc: Global, kind: Kind, number: u32) -> Result<Made, Memory>
     ensures domain { IfOk result (λ made. made.domain ≡ domain_of kind) }
     ensures problem { IfOk result (λ made. made.problem ≡ problem_of kind number) }
     // Neither text is longer than a file may be.
-    ensures domain_fits { IfOk result (λ made. length made.domain ≤ 1048576) }
-    ensures problem_fits { IfOk result (λ made. length made.problem ≤ 1048576) }
+    ensures domain_fits { IfOk result (λ made. length made.domain ≤ most_bytes) }
+    ensures problem_fits { IfOk result (λ made. length made.problem ≤ most_bytes) }
 {
     let (domain, problem) = match kind {
         Kind::Corridor => (corridor::DOMAIN, corridor::problem(alloc, number)?),

@@ -3,7 +3,7 @@ ghost use Rattle.std.specs.Prelude.{◌≡◌, ◌≤◌, ℕ, List, length, IsT
 ghost use Rattle.pd_sexp.specs.{Fault.Reads, View.view, Word.has_words};
 ghost use Rattle.pd_model.specs.WellFormed.{IsWellFormed};
 ghost use Rattle.pd_task.specs.Reading.{reading};
-ghost use Rattle.input_files.specs.Limits.{most_bytes};
+ghost use Rattle.containers.specs.Limits.{most_bytes};
 ghost use Rattle.plan_tasks.specs.Tasks.{AreTask, input_of, RefusesTask, RefusesTree, RefusesTrees, IsReading};
 ghost use Rattle.plan_endings.specs.Ends.{StopsBy, OnlyMemory};
 

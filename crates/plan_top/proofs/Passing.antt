@@ -16,7 +16,8 @@ use Rattle.step_encoding.specs.Numbers.{literals_of}
 use Rattle.step_laws.specs.Form.{OrderedTask}
 use Rattle.certificates.specs.Known.{IsOrdered, form_of, formula_at}
 use Rattle.certificates.specs.Certificate.{IsCertificate}
-use Rattle.certificates.specs.Proved.{Proves, most_bytes, proved_as}
+use Rattle.certificates.specs.Proved.{Proves, proved_as}
+use Rattle.containers.specs.Limits.{certificate_bytes}
 use Rattle.certificates.specs.Judged.{IsJudged}
 use Rattle.certificates.specs.declared.prove.Proved.{Proved}
 use Rattle.certificates.specs.declared.prove.Proved.TheVariants as proved
@@ -47,16 +48,16 @@ pub record IsWritten (g : Grounded) (horizon : ℕ) (text : List ℕ) : Type 0 w
   pub ordered : IsOrdered g.task clauses components
   pub small : literals_of (formula_at chain_places (form_of g.task clauses components) horizon) ≤ planner_literals
   pub cert : IsCertificate (formula_at chain_places (form_of g.task clauses components)) text horizon
-  pub short : length text ≤ most_bytes
+  pub short : length text ≤ certificate_bytes
 
-short_text : (horizon : ℕ) (s : Standing) (state : State) (text : List ℕ) → proved.Certificate text ≡ proved_as horizon s state → length text ≤ most_bytes
-short_text horizon Refuted state text e = step (nat_le (length (proof_text horizon state.log)) most_bytes) refl e
+short_text : (horizon : ℕ) (s : Standing) (state : State) (text : List ℕ) → proved.Certificate text ≡ proved_as horizon s state → length text ≤ certificate_bytes
+short_text horizon Refuted state text e = step (nat_le (length (proof_text horizon state.log)) certificate_bytes) refl e
   where
-    step : (b : Bool) → nat_le (length (proof_text horizon state.log)) most_bytes ≡ b → proved.Certificate text ≡ (if b then proved.Certificate (proof_text horizon state.log) else proved.TooLong) → length text ≤ most_bytes
+    step : (b : Bool) → nat_le (length (proof_text horizon state.log)) certificate_bytes ≡ b → proved.Certificate text ≡ (if b then proved.Certificate (proof_text horizon state.log) else proved.TooLong) → length text ≤ certificate_bytes
     step true low e =
         let same : text ≡ proof_text horizon state.log = cc in
-        let within : length (proof_text horizon state.log) ≤ most_bytes = grind (arith, nat_tests, low) in
-        subst (λ (xs : List ℕ). length xs ≤ most_bytes) (sym same) within
+        let within : length (proof_text horizon state.log) ≤ certificate_bytes = grind (arith, nat_tests, low) in
+        subst (λ (xs : List ℕ). length xs ≤ certificate_bytes) (sym same) within
     step false low e = absurd (let never : proved.Certificate text ≡ proved.TooLong = e in cc)
 short_text horizon Found state text e = absurd (let never : proved.Certificate text ≡ proved.Plan state.conflicts = e in cc)
 short_text horizon Going state text e = absurd (let never : proved.Certificate text ≡ proved.Open state.conflicts = e in cc)
@@ -74,7 +75,7 @@ written_as task g horizon budget text (run p so e) = step p so e
           ordered = so.ordered;
           small = so.small;
           cert = subst (λ (xs : List ℕ). IsCertificate (formula_at chain_places (form_of g.task so.clauses so.components)) xs horizon) same (so.certified other refl);
-          short = subst (λ (xs : List ℕ). length xs ≤ most_bytes) same (short_text horizon _ _ other so.is);
+          short = subst (λ (xs : List ℕ). length xs ≤ certificate_bytes) same (short_text horizon _ _ other so.is);
         }
     step proved.TooLong so e = absurd (let never : Listing text ≡ TooLong Proof = e in cc)
     step (proved.Plan conflicts) so e = absurd (let never : Listing text ≡ FoundPlan horizon conflicts = e in cc)
@@ -114,7 +115,7 @@ module _ (laws : Laws) where
   both_so first second text horizon budget end (grounded task g are ready h) (read other too v) =
       verified_so task g horizon text ready (written_as task g horizon budget text h) end (subst (λ (t : Parts). AnswersVerify t text end) (one_task first second other task too are) v)
 
-  its_length : (first second text : List ℕ) (horizon budget : ℕ) → OnceGrounded first second (AnswersProve horizon budget) (Listing text) → length text ≤ most_bytes
+  its_length : (first second text : List ℕ) (horizon budget : ℕ) → OnceGrounded first second (AnswersProve horizon budget) (Listing text) → length text ≤ certificate_bytes
   its_length first second text horizon budget (not_grounded s) = on_listing text (task_stops first second (Listing text) s)
   its_length first second text horizon budget (grounded task g are ready h) = (written_as task g horizon budget text h).short
 

@@ -20,7 +20,8 @@ use Rattle.plan_report.specs.Report.{word_text}
 use Rattle.step_encoding.specs.Limits.{planner_literals}
 use Rattle.step_encoding.specs.Numbers.{literals_of}
 use Rattle.certificates.specs.Known.{IsOrdered, form_of, choice_at, formula_at}
-use Rattle.certificates.specs.Proved.{Proves, most_bytes, proved_as}
+use Rattle.certificates.specs.Proved.{Proves, proved_as}
+use Rattle.containers.specs.Limits.{certificate_bytes}
 use Rattle.certificates.specs.declared.prove.Proved.{Proved}
 use Rattle.certificates.specs.declared.prove.Proved.TheVariants as proved
 use Rattle.requests.specs.Seen.{proves, plans}
@@ -69,7 +70,7 @@ IsEndOf horizon Found end = (conflicts : ℕ) × (end ≡ FoundPlan horizon conf
 IsEndOf horizon Going end = Unit {0}
 
 end_of : (horizon : ℕ) (standing : Standing) (state : State) → IsEndOf horizon standing (ending_of_run horizon (proved_as horizon standing state))
-end_of horizon Refuted state = step (nat_le (length (proof_text horizon state.log)) most_bytes)
+end_of horizon Refuted state = step (nat_le (length (proof_text horizon state.log)) certificate_bytes)
   where
     step : (b : Bool) → IsEndOf horizon Refuted (ending_of_run horizon (if b then proved.Certificate (proof_text horizon state.log) else proved.TooLong))
     step true = inl (proof_text horizon state.log, refl)

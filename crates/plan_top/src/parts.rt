@@ -2,7 +2,7 @@
 ghost use Rattle.std.specs.Prelude.{◌≡◌, ◌≤◌, ◌++◌, ◌∷◌, ℕ, List, Option, [], length, IsTrue, OnOk, IfOk};
 ghost use Rattle.std.specs.List.{AllByRecursion};
 ghost use Rattle.pd_sexp.specs.{Fault.Reads, View.view, Word.has_words};
-ghost use Rattle.input_files.specs.Limits.{most_bytes};
+ghost use Rattle.containers.specs.Limits.{most_bytes};
 ghost use Rattle.commands.specs.Tasks.{IsReading};
 ghost use Rattle.plan_top.specs.own.Parts.{IsShort, IsFirst, HasWords, EndsAlone, IsRunOf, IsPart, ArePrepared};
 ghost use Rattle.plan_endings.specs.Ends.{OnlyMemory};

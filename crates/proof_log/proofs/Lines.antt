@@ -8,6 +8,7 @@ use Rattle.report_lines.proofs.published.ReadBack.{read_back}
 use Rattle.clause_base.specs.declared.log.Entry.{Entry}
 use Rattle.clause_base.specs.declared.log.Entry.TheVariants.{Learn, Drop}
 use Rattle.proof_log.specs.Text.{AreSmall, AreWritten, IsWritten, after_blanks, entry_line, horizon_words, proof_lines, proof_text, spaced}
+use Rattle.horizon_rates.specs.Limits.{last_horizon}
 
 number_line : (n : ℕ) → n ≤ 4294967295 → is_line (decimal n) ≡ true
 number_line n small = word_line (decimal n) (decimal_word n (omega (arith, small)))
@@ -31,8 +32,8 @@ entries_are_lines : (es : List Entry) → AreWritten es → list_all is_line (ma
 entries_are_lines [] are = refl
 entries_are_lines (e ∷ es) are = rw (entry_is_line e are.0) (entries_are_lines es are.1)
 
-first_is_line : (horizon : ℕ) → horizon ≤ 255 → is_line (spaced (horizon_words horizon)) ≡ true
+first_is_line : (horizon : ℕ) → horizon ≤ last_horizon → is_line (spaced (horizon_words horizon)) ≡ true
 first_is_line horizon small = line-append (codes "horizon") (after_blanks (decimal horizon ∷ [])) refl (last_line (horizon ∷ []) (omega (arith, small), tt))
 
-pub lines_read : (horizon : ℕ) (log : List Entry) → horizon ≤ 255 → AreWritten log → lines_of (proof_text horizon log) ≡ proof_lines horizon log
+pub lines_read : (horizon : ℕ) (log : List Entry) → horizon ≤ last_horizon → AreWritten log → lines_of (proof_text horizon log) ≡ proof_lines horizon log
 lines_read horizon log small are = read_back (proof_lines horizon log) (rw (first_is_line horizon small) (entries_are_lines log are))

@@ -10,6 +10,7 @@ use Rattle.proof_log.specs.Text.{AreWritten, IsWritten, after_blanks, entry_line
 use Rattle.proof_log.specs.Place.{AllFit, FitsAfter, IsEntryLine, IsHorizonLine, IsUnfitAt}
 use Rattle.proof_log.specs.own.Reading.{entry_then, learn_then, numbered, one_then}
 use Rattle.proof_log.proofs.Cuts.{by_ends, ended_cut, feed_ends, heads}
+use Rattle.horizon_rates.specs.Limits.{last_horizon}
 
 -- ---- lines, and what follows them
 
@@ -70,7 +71,7 @@ one_cut n m us vs p q e =
     let cut = ended_cut (n ∷ []) (m ∷ []) (10 ∷ us) (10 ∷ vs) (p, tt) (q, tt) (feed_ends us) (feed_ends vs) e in
     (cc (cut.0), cc (cut.1))
 
-first_cut : (n m : ℕ) (us vs : List ℕ) → n ≤ 255 → m ≤ 255 → first_then n us ≡ first_then m vs → (n ≡ m) × (us ≡ vs)
+first_cut : (n m : ℕ) (us vs : List ℕ) → n ≤ last_horizon → m ≤ last_horizon → first_then n us ≡ first_then m vs → (n ≡ m) × (us ≡ vs)
 first_cut n m us vs p q e = let told : one_then n us ≡ one_then m vs = cc in one_cut n m us vs (omega (arith, p)) (omega (arith, q)) told
 
 entry_cut : (e f : Entry) (us vs : List ℕ) → IsWritten e → IsWritten f → entry_then e us ≡ entry_then f vs → (e ≡ f) × (us ≡ vs)
@@ -102,7 +103,7 @@ entries_cut (x ∷ es) (f ∷ fs) p q e =
     let cut = entry_cut x f (entries_then es []) (entries_then fs []) p.0 q.0 e in
     cc (cut.0, entries_cut es fs p.1 q.1 cut.1)
 
-pub one_spelling : (horizon other : ℕ) (log others : List Entry) → horizon ≤ 255 → other ≤ 255 → AreWritten log → AreWritten others
+pub one_spelling : (horizon other : ℕ) (log others : List Entry) → horizon ≤ last_horizon → other ≤ last_horizon → AreWritten log → AreWritten others
     → proof_text horizon log ≡ proof_text other others → (horizon ≡ other) × (log ≡ others)
 one_spelling horizon other log others p q are too e =
     let cut = first_cut horizon other (entries_then log []) (entries_then others []) p q (sym (whole_text horizon log) ∙ (e ∙ whole_text other others)) in
@@ -133,7 +134,7 @@ lines_end (x ∷ es) (l ∷ ls) rest are fit none e =
     let cut = entry_cut x fit.0.0 (entries_then es []) (joined ls ++ rest) are.0 fit.0.1 there in
     lines_end es ls rest are.1 fit.1 none cut.1
 
-pub texts_fit : (horizon : ℕ) (log : List Entry) (at : ℕ) → horizon ≤ 255 → AreWritten log → IsUnfitAt (proof_text horizon log) at → ⊥
+pub texts_fit : (horizon : ℕ) (log : List Entry) (at : ℕ) → horizon ≤ last_horizon → AreWritten log → IsUnfitAt (proof_text horizon log) at → ⊥
 texts_fit horizon log at small are u = by u.lines u.text u.fit u.left u.unfit
   where
     by : (lines : List (List ℕ)) → proof_text horizon log ≡ joined lines ++ u.rest → AllFit lines → (u.rest ≡ [] → lines ≡ [])
@@ -183,7 +184,7 @@ one_place bytes at other u v = u.place ∙ (by u.lines v.lines (sym u.text ∙ v
 -- these entries were read, and this is left
 pub record IsParsed (bytes : List ℕ) (horizon : ℕ) (log : List Entry) (rest : List ℕ) : Type 0 where
   pub text : bytes ≡ first_then horizon (entries_then log rest)
-  pub small : horizon ≤ 255
+  pub small : horizon ≤ last_horizon
   pub written : AreWritten log
 
 pub one_entry_more : (bytes : List ℕ) (horizon : ℕ) (log next : List Entry) (rest others : List ℕ) (e : Entry) → IsParsed bytes horizon log rest → IsWritten e
@@ -215,7 +216,7 @@ unfit_here bytes horizon log rest at p some none place =
       unfit = λ line more e is. none is.0 more is.1 (e ∙ of_line line more is);
     }
 
-pub parsed_first : (bytes : List ℕ) (horizon : ℕ) (rest : List ℕ) → horizon ≤ 255 → bytes ≡ first_then horizon rest → IsParsed bytes horizon [] rest
+pub parsed_first : (bytes : List ℕ) (horizon : ℕ) (rest : List ℕ) → horizon ≤ last_horizon → bytes ≡ first_then horizon rest → IsParsed bytes horizon [] rest
 parsed_first bytes horizon rest small text = record { text = text; small = small; written = tt }
 
 shorter_first : (horizon : ℕ) (rest : List ℕ) → length rest ≤ length (first_then horizon rest)

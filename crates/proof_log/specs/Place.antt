@@ -6,10 +6,11 @@ use Rattle.clause_base.specs.declared.log.Entry.{Entry}
 use Rattle.proof_log.specs.Text.{spaced, horizon_words, entry_line, IsWritten}
 use Rattle.proof_log.specs.declared.proof.ProofFault.{ProofFault}
 use Rattle.proof_log.specs.declared.proof.ProofFault.TheVariants.{Syntax, Memory}
+use Rattle.horizon_rates.specs.Limits.{last_horizon}
 
--- the line names a horizon from 0 to 255
+-- the line names a horizon from 0 to the greatest one
 abbrev pub IsHorizonLine : List ℕ → Type 0
-IsHorizonLine line = (horizon : ℕ) × (horizon ≤ 255) × (line ≡ spaced (horizon_words horizon))
+IsHorizonLine line = (horizon : ℕ) × (horizon ≤ last_horizon) × (line ≡ spaced (horizon_words horizon))
 
 -- the line is that of an entry
 abbrev pub IsEntryLine : List ℕ → Type 0

@@ -12,7 +12,7 @@ pub type Text = ListOf<u8>;
 /// A certificate: a horizon, and the log that is to refute it.
 #[derive(Drop)]
 pub struct Proof {
-    /// The horizon, from 0 to 255.
+    /// The horizon, from 0 to the greatest one.
     pub horizon: u32,
     /// What a solver learned and dropped, in order.
     pub log: Log,

@@ -4,6 +4,7 @@ ghost use Rattle.proof_log.specs.Text.{proof_text};
 ghost use Rattle.proof_log.specs.own.Reading.{numbered, entry_then};
 ghost use Rattle.proof_log.specs.Step.{told};
 ghost use Rattle.clause_base.specs.declared.log.Entry.TheVariants.{Learn, Drop};
+ghost use Rattle.horizon_rates.specs.Limits.{last_horizon};
 
 use crate::length::proof_length;
 use crate::log::Log;
@@ -62,9 +63,9 @@ fn push_entry(text: &mut Vec<u8>, step: &Step<'_>) -> Result<(), AllocError>
     }
 }
 
-/// The text of a certificate, in memory that is sized once. The horizon is from 0 to 255.
+/// The text of a certificate, in memory that is sized once. The horizon is from 0 to the greatest one.
 pub fn write_proof(alloc: Global, horizon: u32, log: &Log) -> Result<Text, Memory>
-    requires { horizon ≤ 255 }
+    requires { horizon ≤ last_horizon }
     ensures { IfOk result (λ text. text ≡ proof_text horizon log.now) }
 {
     let mut text = Vec::new(alloc);

@@ -22,8 +22,8 @@ use Rattle.propagation.proofs.Visits.{once}
 use Rattle.propagation.proofs.published.Adds.{listed_add, literal_other, literal_own, own_free, free_add, rising_short, pending_other, pending_own}
 
 -- what was done to the tables for a clause of two literals or more
-pub record IsEntered (k : List ℕ) (number : ℕ) (trail : List ℕ) (froms' heads : List ℕ) (nodes : List Node) (heads' : List ℕ) (nodes' : List Node) (a b : ℕ) : Type 0 where
-  pub below : number < length froms'
+pub record IsEntered (k : List ℕ) (number : ℕ) (trail : List ℕ) (resume_at' heads : List ℕ) (nodes : List Node) (heads' : List ℕ) (nodes' : List Node) (a b : ℕ) : Type 0 where
+  pub below : number < length resume_at'
   pub lawful : IsClause k
   pub first : ℕ
   pub second : ℕ
@@ -44,47 +44,47 @@ pub record IsEntered (k : List ℕ) (number : ℕ) (trail : List ℕ) (froms' he
   pub others : (x : ℕ) → (x ≡ 2 * number → ⊥) → (x ≡ 2 * number + 1 → ⊥) → blocking_of nodes' x ≡ blocking_of nodes x
 
 -- a node of no clause is on no chain
-off_past : (cl : List (List ℕ)) (froms heads : List ℕ) (nodes : List Node) (spare : ℕ) (kept : List Bool) (node : ℕ) (r : IsAtRest cl froms heads nodes spare kept)
+off_past : (cl : List (List ℕ)) (resume_at heads : List ℕ) (nodes : List Node) (spare : ℕ) (kept : List Bool) (node : ℕ) (r : IsAtRest cl resume_at heads nodes spare kept)
     → 2 * length cl ≤ node → r.on node ≡ None
-off_past cl froms heads nodes spare kept node r h = by (r.on node) refl
+off_past cl resume_at heads nodes spare kept node r h = by (r.on node) refl
   where
     by : (o : Option ℕ) → r.on node ≡ o → o ≡ None
     by None e = refl
     by (Some l) e = let real = r.real node l e in absurd (omega (arith, real.below, h))
 
-pub pair_loose : (cl : List (List ℕ)) (froms heads : List ℕ) (nodes : List Node) (spare : ℕ) (kept : List Bool) (number : ℕ) (r : IsAtRest cl froms heads nodes spare kept)
+pub pair_loose : (cl : List (List ℕ)) (resume_at heads : List ℕ) (nodes : List Node) (spare : ℕ) (kept : List Bool) (number : ℕ) (r : IsAtRest cl resume_at heads nodes spare kept)
     → number ≡ length cl → ArePairLoose heads nodes (2 * number)
-pair_loose cl froms heads nodes spare kept number r e = record {
+pair_loose cl resume_at heads nodes spare kept number r e = record {
   on = r.on;
   linked = r.linked;
-  first = off_past cl froms heads nodes spare kept (2 * number) r (omega (arith, e));
-  second = off_past cl froms heads nodes spare kept (2 * number + 1) r (omega (arith, e));
+  first = off_past cl resume_at heads nodes spare kept (2 * number) r (omega (arith, e));
+  second = off_past cl resume_at heads nodes spare kept (2 * number + 1) r (omega (arith, e));
 }
 
 -- no two places of a clause have one literal
-split : (k : List ℕ) (number : ℕ) (trail froms' heads : List ℕ) (nodes : List Node) (heads' : List ℕ) (nodes' : List Node) (a b : ℕ)
-    → IsEntered k number trail froms' heads nodes heads' nodes' a b → a ≡ b → ⊥
-split k number trail froms' heads nodes heads' nodes' a b e q =
+split : (k : List ℕ) (number : ℕ) (trail resume_at' heads : List ℕ) (nodes : List Node) (heads' : List ℕ) (nodes' : List Node) (a b : ℕ)
+    → IsEntered k number trail resume_at' heads nodes heads' nodes' a b → a ≡ b → ⊥
+split k number trail resume_at' heads nodes heads' nodes' a b e q =
     e.apart (once k e.second e.first e.lawful.rising e.second_in e.first_in (sym e.second_is ∙ sym q ∙ e.first_is))
 
-pub rests_long : (k : List ℕ) (number : ℕ) (trail froms froms' heads : List ℕ) (nodes : List Node) (heads' : List ℕ) (nodes' : List Node) (a b codes : ℕ)
-    → IsEntered k number trail froms' heads nodes heads' nodes' a b → (cl : List (List ℕ)) (kept : List Bool) → length cl ≡ number
-    → length kept ≡ number → IsAtRest cl froms heads nodes codes kept → IsAtRest (cl ++ k ∷ []) froms' heads' nodes' codes (kept ++ true ∷ [])
-rests_long k number trail froms froms' heads nodes heads' nodes' a b codes entered cl kept lc lk r =
-    let e = subst (λ (n : ℕ). IsEntered k n trail froms' heads nodes heads' nodes' a b) (sym lc) entered in
-    listed_add cl k froms froms' heads heads' nodes nodes' codes kept e.first e.second a b r (lk ∙ sym lc) e.below e.first_in e.second_in
-    (split k (length cl) trail froms' heads nodes heads' nodes' a b e) e.long e.first_is e.second_is
-    (e.linked r.on r.linked (off_past cl froms heads nodes codes kept (2 * length cl) r (omega arith)) (off_past cl froms heads nodes codes kept (2 * length cl + 1) r (omega arith)))
+pub rests_long : (k : List ℕ) (number : ℕ) (trail resume_at resume_at' heads : List ℕ) (nodes : List Node) (heads' : List ℕ) (nodes' : List Node) (a b codes : ℕ)
+    → IsEntered k number trail resume_at' heads nodes heads' nodes' a b → (cl : List (List ℕ)) (kept : List Bool) → length cl ≡ number
+    → length kept ≡ number → IsAtRest cl resume_at heads nodes codes kept → IsAtRest (cl ++ k ∷ []) resume_at' heads' nodes' codes (kept ++ true ∷ [])
+rests_long k number trail resume_at resume_at' heads nodes heads' nodes' a b codes entered cl kept lc lk r =
+    let e = subst (λ (n : ℕ). IsEntered k n trail resume_at' heads nodes heads' nodes' a b) (sym lc) entered in
+    listed_add cl k resume_at resume_at' heads heads' nodes nodes' codes kept e.first e.second a b r (lk ∙ sym lc) e.below e.first_in e.second_in
+    (split k (length cl) trail resume_at' heads nodes heads' nodes' a b e) e.long e.first_is e.second_is
+    (e.linked r.on r.linked (off_past cl resume_at heads nodes codes kept (2 * length cl) r (omega arith)) (off_past cl resume_at heads nodes codes kept (2 * length cl + 1) r (omega arith)))
     e.codes e.room e.first_note e.second_note e.others
 
-pub free_long : (k : List ℕ) (number : ℕ) (trail froms' heads : List ℕ) (nodes : List Node) (heads' : List ℕ) (nodes' : List Node) (a b : ℕ)
-    → IsEntered k number trail froms' heads nodes heads' nodes' a b → (cl : List (List ℕ)) (kept : List Bool) (n : ℕ) → length cl ≡ number
+pub free_long : (k : List ℕ) (number : ℕ) (trail resume_at' heads : List ℕ) (nodes : List Node) (heads' : List ℕ) (nodes' : List Node) (a b : ℕ)
+    → IsEntered k number trail resume_at' heads nodes heads' nodes' a b → (cl : List (List ℕ)) (kept : List Bool) (n : ℕ) → length cl ≡ number
     → length kept ≡ number → n ≤ length trail → AreFree cl nodes kept (take n trail) → AreFree (cl ++ k ∷ []) nodes' (kept ++ true ∷ []) (take n trail)
-free_long k number trail froms' heads nodes heads' nodes' a b entered cl kept n lc lk h f =
+free_long k number trail resume_at' heads nodes heads' nodes' a b entered cl kept n lc lk h f =
     free_add cl k nodes nodes' kept (take n trail) (lk ∙ sym lc) (λ node ne. literal_other cl nodes nodes' node e.others ne) f own
   where
-    e : IsEntered k (length cl) trail froms' heads nodes heads' nodes' a b
-    e = subst (λ (m : ℕ). IsEntered k m trail froms' heads nodes heads' nodes' a b) (sym lc) entered
+    e : IsEntered k (length cl) trail resume_at' heads nodes heads' nodes' a b
+    e = subst (λ (m : ℕ). IsEntered k m trail resume_at' heads nodes heads' nodes' a b) (sym lc) entered
 
     own : (node : ℕ) → node / 2 ≡ length cl → 2 ≤ length k → has_two_free (has_literal (take n trail)) k ≡ true
         → is_free (has_literal (take n trail)) (literal_at nodes' node) ≡ true
@@ -99,10 +99,10 @@ free_long k number trail froms' heads nodes heads' nodes' a b entered cl kept n 
             ap (λ (l : ℕ). is_free (has_literal (take n trail)) l) (literal_own nodes' (length cl) a b node false q s e.first_note e.second_note ∙ e.first_is) ∙ o.0
 
 -- as long as the second is not false, two are not
-pub quiet_long : (k : List ℕ) (number : ℕ) (trail froms' heads : List ℕ) (nodes : List Node) (heads' : List ℕ) (nodes' : List Node) (a b until : ℕ)
-    → IsEntered k number trail froms' heads nodes heads' nodes' a b
+pub quiet_long : (k : List ℕ) (number : ℕ) (trail resume_at' heads : List ℕ) (nodes : List Node) (heads' : List ℕ) (nodes' : List Node) (a b until : ℕ)
+    → IsEntered k number trail resume_at' heads nodes heads' nodes' a b
     → ((n : ℕ) → n ≤ length trail → is_free (has_literal (take n trail)) b ≡ leb n until) → IsQuietBelow k trail (until + 1)
-quiet_long k number trail froms' heads nodes heads' nodes' a b until e lasts n h l =
+quiet_long k number trail resume_at' heads nodes heads' nodes' a b until e lasts n h l =
     let m : n ≤ until = omega (arith, l) in
     let on = has_literal (take n trail) in
     let second : is_free on (get_or k e.second 0) ≡ true = ap (λ (x : ℕ). is_free on x) (sym e.second_is) ∙ lasts n h ∙ tests_at_most n until m in

@@ -17,7 +17,7 @@ use Rattle.cdcl_tables.specs.Linked.{IsLinked}
 use Rattle.propagation.specs.declared.given.Given.{Given}
 use Rattle.propagation.specs.declared.pending.Pending.{Pending}
 use Rattle.propagation.specs.declared.tables.Tables.{Tables}
-use Rattle.propagation.specs.declared.visit.Lists.{Lists}
+use Rattle.propagation.specs.declared.visit.WatchState.{WatchState}
 use Rattle.propagation.specs.own.Asks.{IsAsk, IsPut}
 use Rattle.propagation.specs.own.Added.{AreWider, RestsWith}
 use Rattle.propagation.specs.own.Given.{AreGiven, AreRising, IsBeside}
@@ -212,7 +212,7 @@ given_long codes cl n g g' i long e same rests = record {
     }
 
 -- with more room
-pub given_wider : (codes : ℕ) (cl : List (List ℕ)) (n : ℕ) (g : Given) (l : Lists) → n ≤ length cl → AreGiven codes cl n g → AreWider g.lists l
+pub given_wider : (codes : ℕ) (cl : List (List ℕ)) (n : ℕ) (g : Given) (l : WatchState) → n ≤ length cl → AreGiven codes cl n g → AreWider g.lists l
     → AreGiven codes cl n (record g { lists = l })
 given_wider codes cl n g l few i w = record {
   slotted = i.slotted;

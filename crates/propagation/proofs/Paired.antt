@@ -6,7 +6,7 @@ use Rattle.std.proofs.lemmas.Bool.Decides.{nat_tests}
 use Rattle.std.proofs.lemmas.List.{get_or_push, get_or_append_left, length_push}
 use Rattle.clause_base.specs.Literal.{opposite}
 use Rattle.clause_base.specs.Clause.{has_literal}
-use Rattle.propagation.specs.declared.visit.Lists.{Lists}
+use Rattle.propagation.specs.declared.visit.WatchState.{WatchState}
 use Rattle.clause_base.specs.declared.pair.Pair.{Pair}
 use Rattle.clause_base.specs.Pairs.{pairs_of, pair_in}
 use Rattle.cdcl_tables.specs.Pairs.{HasPair, IsInPairs, IsPairOf, AreExact}
@@ -57,7 +57,7 @@ exact_more cl k ps old code place h = by (old code place h)
     by (inr e) = inr (at_other cl k (pair_in (pairs_of ps code) place).number (not_last ((pair_in (pairs_of ps code) place).other ∷ code ∷ []) e refl) ∙ e)
 
 -- with a new clause that has a slot, or fewer than two literals
-pub paired_add : (v number codes : ℕ) (cl : List (List ℕ)) (k trail : List ℕ) (ps : List (List Pair)) (slots : List ℕ) (l : Lists) (slots' : List ℕ) (l' : Lists)
+pub paired_add : (v number codes : ℕ) (cl : List (List ℕ)) (k trail : List ℕ) (ps : List (List Pair)) (slots : List ℕ) (l : WatchState) (slots' : List ℕ) (l' : WatchState)
     → IsPaired v cl slots ps → number ≡ length cl → IsTaken k number codes trail slots l slots' l' → IsPaired v (cl ++ k ∷ []) slots' ps
 paired_add v number codes cl k trail ps slots l slots' l' i e taken = record {
   long = i.long;

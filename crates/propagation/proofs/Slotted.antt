@@ -4,7 +4,7 @@ use Rattle.std.proofs.lemmas.Bool.Decides.{nat_tests}
 use Rattle.std.proofs.lemmas.List.{get_or-map, length-map, map-append, length_push, get_or_push}
 use Rattle.clause_base.specs.Clause.{IsClause, has_literal}
 use Rattle.cdcl_defs.specs.Pending.{is_pending}
-use Rattle.propagation.specs.declared.visit.Lists.{Lists}
+use Rattle.propagation.specs.declared.visit.WatchState.{WatchState}
 use Rattle.propagation.specs.Pending.{is_pending_on}
 use Rattle.cdcl_defs.specs.State.{clause_at}
 use Rattle.propagation.specs.own.Visit.{slot_clauses, slot_flags, slot_set, AreSlotsBelow, IsFit, IsAtRest}
@@ -115,10 +115,10 @@ below_as : (m n : ℕ) (slots : List ℕ) → m ≡ n → AreSlotsBelow m slots 
 below_as m n slots e h = subst (λ (x : ℕ). AreSlotsBelow x slots) e h
 
 -- a clause that was taken leaves the tables at rest
-pub taken_rest : (cl : List (List ℕ)) (k : List ℕ) (kept : List Bool) (number codes : ℕ) (trail slots : List ℕ) (l : Lists) (slots' : List ℕ) (l' : Lists)
+pub taken_rest : (cl : List (List ℕ)) (k : List ℕ) (kept : List Bool) (number codes : ℕ) (trail slots : List ℕ) (l : WatchState) (slots' : List ℕ) (l' : WatchState)
     → length kept ≡ length cl → number ≡ length cl → AreSlotsBelow (length cl) slots → IsTaken k number codes trail slots l slots' l'
-    → IsAtRest (slot_clauses cl slots) l.froms.items l.chains.heads.items l.chains.nodes.items codes (slot_flags kept slots)
-    → IsAtRest (slot_clauses (cl ++ k ∷ []) slots') l'.froms.items l'.chains.heads.items l'.chains.nodes.items codes (slot_flags (kept ++ true ∷ []) slots')
+    → IsAtRest (slot_clauses cl slots) l.resume_at.items l.chains.heads.items l.chains.nodes.items codes (slot_flags kept slots)
+    → IsAtRest (slot_clauses (cl ++ k ∷ []) slots') l'.resume_at.items l'.chains.heads.items l'.chains.nodes.items codes (slot_flags (kept ++ true ∷ []) slots')
 taken_rest cl k kept number codes trail slots l slots' l' lk e h (inl t) r =
     rw (t.slots_stay, t.lists_stay, slots_same cl k slots h, flags_same kept slots (below_as (length cl) (length kept) slots (sym lk) h)) r
 taken_rest cl k kept number codes trail slots l slots' l' lk e h (inr t) r =
@@ -126,7 +126,7 @@ taken_rest cl k kept number codes trail slots l slots' l' lk e h (inr t) r =
     (t.rests (slot_clauses cl slots) (slot_flags kept slots) (slots_long cl slots) (flags_long kept slots) r)
 
 -- and its watched literals right in each prefix of the trail
-pub taken_free : (cl : List (List ℕ)) (k : List ℕ) (kept : List Bool) (number codes : ℕ) (trail slots : List ℕ) (l : Lists) (slots' : List ℕ) (l' : Lists) (n : ℕ)
+pub taken_free : (cl : List (List ℕ)) (k : List ℕ) (kept : List Bool) (number codes : ℕ) (trail slots : List ℕ) (l : WatchState) (slots' : List ℕ) (l' : WatchState) (n : ℕ)
     → length kept ≡ length cl → number ≡ length cl → AreSlotsBelow (length cl) slots → IsTaken k number codes trail slots l slots' l'
     → n ≤ length trail → AreFree (slot_clauses cl slots) l.chains.nodes.items (slot_flags kept slots) (take n trail)
     → AreFree (slot_clauses (cl ++ k ∷ []) slots') l'.chains.nodes.items (slot_flags (kept ++ true ∷ []) slots') (take n trail)
@@ -150,12 +150,12 @@ below_more n slots number e h s g = by (s == length slots) refl
 below_wider : (n : ℕ) (slots : List ℕ) → AreSlotsBelow n slots → AreSlotsBelow (n + 1) slots
 below_wider n slots h s g = omega (arith, h s g)
 
-pub taken_below : (n : ℕ) (k : List ℕ) (number codes : ℕ) (trail slots : List ℕ) (l : Lists) (slots' : List ℕ) (l' : Lists) → number ≡ n
+pub taken_below : (n : ℕ) (k : List ℕ) (number codes : ℕ) (trail slots : List ℕ) (l : WatchState) (slots' : List ℕ) (l' : WatchState) → number ≡ n
     → IsTaken k number codes trail slots l slots' l' → AreSlotsBelow n slots → AreSlotsBelow (n + 1) slots'
 taken_below n k number codes trail slots l slots' l' e (inl t) h = subst (λ (ss : List ℕ). AreSlotsBelow (n + 1) ss) (sym t.slots_stay) (below_wider n slots h)
 taken_below n k number codes trail slots l slots' l' e (inr t) h = subst (λ (ss : List ℕ). AreSlotsBelow (n + 1) ss) (sym t.slotted) (below_more n slots number e h)
 
-pub taken_few : (k : List ℕ) (number codes : ℕ) (trail slots : List ℕ) (l : Lists) (slots' : List ℕ) (l' : Lists)
+pub taken_few : (k : List ℕ) (number codes : ℕ) (trail slots : List ℕ) (l : WatchState) (slots' : List ℕ) (l' : WatchState)
     → IsTaken k number codes trail slots l slots' l' → length slots' ≤ length slots + 1
 taken_few k number codes trail slots l slots' l' (inl t) = omega (arith, ap (λ (ss : List ℕ). length ss) t.slots_stay)
 taken_few k number codes trail slots l slots' l' (inr t) = omega (arith, ap (λ (ss : List ℕ). length ss) t.slotted, length_push slots number)

@@ -5,7 +5,7 @@ use Rattle.clause_base.specs.Clause.{has_literal, IsClause, HasVariablesBelow}
 use Rattle.propagation.specs.declared.enter.Entered.{Entered}
 use Rattle.propagation.specs.declared.pending.Pending.{Pending}
 use Rattle.propagation.specs.declared.tables.Tables.{Tables}
-use Rattle.propagation.specs.declared.visit.Lists.{Lists}
+use Rattle.propagation.specs.declared.visit.WatchState.{WatchState}
 use Rattle.propagation.specs.own.Asks.{IsAsk}
 use Rattle.propagation.specs.own.Tables.{AreTables}
 use Rattle.propagation.specs.own.Visit.{AreSlotsBelow}
@@ -29,8 +29,8 @@ quiet_off quiet quiet' low len n h q below off = by (leb low n) refl
     by false e = (sym (below n (past_of low n e)) ∙ q, past_of low n e)
 
 -- what was done for a new clause
-pub record IsAddedTo (v : ℕ) (t : Tables) (l : Lists) (trail : List ℕ) (quiet : List Bool) (k : List ℕ) (number : ℕ) (entered : Entered) (t' : Tables)
-    (l' : Lists) (p : Pending) (quiet' : List Bool) : Type 0 where
+pub record IsAddedTo (v : ℕ) (t : Tables) (l : WatchState) (trail : List ℕ) (quiet : List Bool) (k : List ℕ) (number : ℕ) (entered : Entered) (t' : Tables)
+    (l' : WatchState) (p : Pending) (quiet' : List Bool) : Type 0 where
   pub lawful : IsClause k
   pub below : HasVariablesBelow v k
   pub numbered : number ≡ length t.store
@@ -48,7 +48,7 @@ pub record IsAddedTo (v : ℕ) (t : Tables) (l : Lists) (trail : List ℕ) (quie
   pub same : (n : ℕ) → n < entered.low → get_or quiet' n false ≡ get_or quiet n false
   pub off : (n : ℕ) → entered.low ≤ n → n < length trail → get_or quiet' n false ≡ false
 
-tables_add : (v : ℕ) (t : Tables) (l : Lists) (trail : List ℕ) (quiet : List Bool) (k : List ℕ) (number : ℕ) (entered : Entered) (t' : Tables) (l' : Lists) (p : Pending) (quiet' : List Bool)
+tables_add : (v : ℕ) (t : Tables) (l : WatchState) (trail : List ℕ) (quiet : List Bool) (k : List ℕ) (number : ℕ) (entered : Entered) (t' : Tables) (l' : WatchState) (p : Pending) (quiet' : List Bool)
     → AreSound v t l trail quiet → IsAddedTo v t l trail quiet k number entered t' l' p quiet' → AreTables t' (2 * v)
 tables_add v t l trail quiet k number entered t' l' p quiet' i a = record {
   limit = i.tables.limit;
@@ -62,7 +62,7 @@ tables_add v t l trail quiet k number entered t' l' p quiet' i a = record {
 }
 
 -- all that holds of the tables holds with the new clause
-pub sound_add : (v : ℕ) (t : Tables) (l : Lists) (trail : List ℕ) (quiet : List Bool) (k : List ℕ) (number : ℕ) (entered : Entered) (t' : Tables) (l' : Lists) (p : Pending) (quiet' : List Bool)
+pub sound_add : (v : ℕ) (t : Tables) (l : WatchState) (trail : List ℕ) (quiet : List Bool) (k : List ℕ) (number : ℕ) (entered : Entered) (t' : Tables) (l' : WatchState) (p : Pending) (quiet' : List Bool)
     → AreSound v t l trail quiet → IsAddedTo v t l trail quiet k number entered t' l' p quiet'
     → AreSound v t' (record l' { pending = p }) trail quiet'
 sound_add v t l trail quiet k number entered t' l' p quiet' i a = record {

@@ -8,14 +8,14 @@ use Rattle.clause_base.specs.Repeats.{Repeats, all_steps, all_times, repeated}
 use Rattle.clause_base.proofs.published.RepeatLemmas.{get_left, get_right, length_steps, length_repeated}
 use Rattle.cdcl_defs.specs.State.{clause_at}
 use Rattle.propagation.specs.declared.steps.Steps.{Steps}
-use Rattle.propagation.specs.declared.visit.Lists.{Lists}
+use Rattle.propagation.specs.declared.visit.WatchState.{WatchState}
 use Rattle.propagation.specs.own.Added.{IsTaken}
 use Rattle.propagation.specs.own.Steps.{ArePlaced, AreStepped, IsPlaced}
 use Rattle.propagation.proofs.published.Adds.{at_other}
 use Rattle.propagation.proofs.Templates.{part_below, whole_long}
 
 -- one more clause, which may have one more slot
-pub stepped_add : (cl : List (List ℕ)) (k : List ℕ) (number codes : ℕ) (trail slots : List ℕ) (l : Lists) (slots' : List ℕ) (l' : Lists) (t : Steps)
+pub stepped_add : (cl : List (List ℕ)) (k : List ℕ) (number codes : ℕ) (trail slots : List ℕ) (l : WatchState) (slots' : List ℕ) (l' : WatchState) (t : Steps)
     → IsTaken k number codes trail slots l slots' l' → AreStepped cl slots t → AreStepped (cl ++ k ∷ []) slots' t
 stepped_add cl k number codes trail slots l slots' l' t taken i = record {
   within = omega (arith, i.within, length_push cl k);

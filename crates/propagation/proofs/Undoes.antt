@@ -9,7 +9,7 @@ use Rattle.propagation.specs.declared.undo.Back.TheVariants.{Length, Level}
 use Rattle.propagation.specs.own.Back.{taken_back}
 use Rattle.propagation.specs.declared.pending.Pending.{Pending}
 use Rattle.propagation.specs.declared.tables.Tables.{Tables}
-use Rattle.propagation.specs.declared.visit.Lists.{Lists}
+use Rattle.propagation.specs.declared.visit.WatchState.{WatchState}
 use Rattle.propagation.specs.own.Asks.{HasAsks, IsConsistent}
 use Rattle.propagation.specs.Front.{AreRead, IsComplete, StayWhere}
 use Rattle.propagation.specs.own.Sound.{AreFree, AreSound}
@@ -41,7 +41,7 @@ taken_le (Length n) entries = take_le n entries
 taken_le (Level level) entries = back_le level entries
 
 -- on a shorter trail the watches are right with no work
-pub undo_sound : (v : ℕ) (t : Tables) (l : Lists) (trail : List ℕ) (quiet : List Bool) (m : ℕ) (trail' : List ℕ) (p : Pending)
+pub undo_sound : (v : ℕ) (t : Tables) (l : WatchState) (trail : List ℕ) (quiet : List Bool) (m : ℕ) (trail' : List ℕ) (p : Pending)
     → AreSound v t l trail quiet → trail' ≡ take m trail → m ≤ length trail → HasAsks t.store trail' p → IsComplete (pending_in t trail') p
     → AreSound v t (record l { pending = p }) trail' quiet
 undo_sound v t l trail quiet m trail' p i e h asks complete = record {
@@ -65,19 +65,19 @@ undo_sound v t l trail quiet m trail' p i e h asks complete = record {
     shorter n b = ap (λ (xs : List ℕ). take n xs) e ∙ take-take n m trail b
 
 -- the set alone is another
-pub sound_set : (v : ℕ) (t : Tables) (l : Lists) (trail : List ℕ) (quiet : List Bool) (p : Pending) → AreSound v t l trail quiet
+pub sound_set : (v : ℕ) (t : Tables) (l : WatchState) (trail : List ℕ) (quiet : List Bool) (p : Pending) → AreSound v t l trail quiet
     → HasAsks t.store trail p → IsComplete (pending_in t trail) p → AreSound v t (record l { pending = p }) trail quiet
 sound_set v t l trail quiet p i asks complete = undo_sound v t l trail quiet (length trail) trail p i (sym (take_all (length trail) trail (omega arith))) (omega arith) asks complete
 
 -- the assignment of the trail tells what holds of the tables
-pub read_as : (v : ℕ) (t : Tables) (l : Lists) (trail : List ℕ) (quiet : List Bool) (n : ℕ) (a : AssignmentView) → AreSound v t l trail quiet → n ≡ v
+pub read_as : (v : ℕ) (t : Tables) (l : WatchState) (trail : List ℕ) (quiet : List Bool) (n : ℕ) (a : AssignmentView) → AreSound v t l trail quiet → n ≡ v
     → a ≡ record { variables = n; trail = trail } → AreRead t a l.pending
 read_as v t l trail quiet n a i e f =
     subst (λ (b : AssignmentView). AreRead t b l.pending) (sym f)
     (record { tables = subst (λ (m : ℕ). AreTables t (2 * m)) (sym e) i.tables; consistent = i.consistent; asks = i.asks })
 
 -- of the set members go that are not pending
-pub sound_stay : (v : ℕ) (t : Tables) (l : Lists) (trail : List ℕ) (quiet : List Bool) (n : ℕ) (a : AssignmentView) (p : Pending)
+pub sound_stay : (v : ℕ) (t : Tables) (l : WatchState) (trail : List ℕ) (quiet : List Bool) (n : ℕ) (a : AssignmentView) (p : Pending)
     → AreSound v t l trail quiet → a ≡ record { variables = n; trail = trail } → HasAsks t.store a.trail p
     → StayWhere (pending_in t a.trail) l.pending p → AreSound v t (record l { pending = p }) trail quiet
 sound_stay v t l trail quiet n a p i f asks stay =

@@ -117,11 +117,11 @@ ahead_of nd node rest A ne (inl h) = inl (by (node == nd) refl h)
     by false f e = e
 
 -- the node stays, and its clause is settled
-pub visited_stay : (cl : List (List ℕ)) (froms : List ℕ) (heads : List ℕ) (nodes : List Node) (codes : ℕ) (kept : List Bool) (on set set' : ℕ → Bool)
-    (code nd : ℕ) (rest : List ℕ) (place next : Place) (v : IsVisiting cl froms heads nodes codes kept on set code (nd ∷ rest) place)
+pub visited_stay : (cl : List (List ℕ)) (resume_at : List ℕ) (heads : List ℕ) (nodes : List Node) (codes : ℕ) (kept : List Bool) (on set set' : ℕ → Bool)
+    (code nd : ℕ) (rest : List ℕ) (place next : Place) (v : IsVisiting cl resume_at heads nodes codes kept on set code (nd ∷ rest) place)
     → IsWalk heads nodes v.listed.on code rest next → Grows set set' → (IsNodeKept kept nd → IsSettled on set' (clause_at cl (nd / 2)) (nd / 2))
-    → IsVisiting cl froms heads nodes codes kept on set' code rest next
-visited_stay cl froms heads nodes codes kept on set set' code nd rest place next v walk grows own = record {
+    → IsVisiting cl resume_at heads nodes codes kept on set' code rest next
+visited_stay cl resume_at heads nodes codes kept on set set' code nd rest place next v walk grows own = record {
   listed = v.listed;
   walk = walk;
   settled = λ node e m. by node e m (node == nd) refl;
@@ -145,12 +145,12 @@ none_some : (code : ℕ) → None ≡ Some code → ⊥
 none_some code e = let w : ⊥ = cc in w
 
 -- the node of a clause that is not kept is on no chain any more
-pub visited_drop : (cl : List (List ℕ)) (froms : List ℕ) (heads heads' : List ℕ) (nodes nodes' : List Node) (codes : ℕ) (kept : List Bool) (on set : ℕ → Bool)
-    (code nd : ℕ) (rest : List ℕ) (place next : Place) (v : IsVisiting cl froms heads nodes codes kept on set code (nd ∷ rest) place)
+pub visited_drop : (cl : List (List ℕ)) (resume_at : List ℕ) (heads heads' : List ℕ) (nodes nodes' : List Node) (codes : ℕ) (kept : List Bool) (on set : ℕ → Bool)
+    (code nd : ℕ) (rest : List ℕ) (place next : Place) (v : IsVisiting cl resume_at heads nodes codes kept on set code (nd ∷ rest) place)
     → IsWalk heads' nodes' (placed nd None v.listed.on) code rest next → length heads' ≡ length heads → length nodes' ≡ length nodes
     → ((k : ℕ) → blocking_of nodes' k ≡ blocking_of nodes k) → get_or kept (nd / 2) false ≡ false
-    → IsVisiting cl froms heads' nodes' codes kept on set code rest next
-visited_drop cl froms heads heads' nodes nodes' codes kept on set code nd rest place next v walk lh ln same off = record {
+    → IsVisiting cl resume_at heads' nodes' codes kept on set code rest next
+visited_drop cl resume_at heads heads' nodes nodes' codes kept on set code nd rest place next v walk lh ln same off = record {
   listed = record {
     on = placed nd None v.listed.on;
     linked = walk.linked;
@@ -184,13 +184,13 @@ visited_drop cl froms heads heads' nodes nodes' codes kept on set code nd rest p
         let ne : k ≢ nd = grind (arith, nat_tests) in ahead_of nd k rest (IsSettled on set (clause_at cl (k / 2)) (k / 2)) ne (v.settled k e m)
 
 -- the node is on the chain of the literal that its clause watches from now on, which is the blocking literal of the other node
-pub visited_move : (cl : List (List ℕ)) (froms froms' heads heads' : List ℕ) (nodes nodes' : List Node) (codes : ℕ) (kept : List Bool) (on set : ℕ → Bool)
-    (code nd to : ℕ) (rest : List ℕ) (place next : Place) (v : IsVisiting cl froms heads nodes codes kept on set code (nd ∷ rest) place)
+pub visited_move : (cl : List (List ℕ)) (resume_at resume_at' heads heads' : List ℕ) (nodes nodes' : List Node) (codes : ℕ) (kept : List Bool) (on set : ℕ → Bool)
+    (code nd to : ℕ) (rest : List ℕ) (place next : Place) (v : IsVisiting cl resume_at heads nodes codes kept on set code (nd ∷ rest) place)
     → IsWalk heads' nodes' (placed nd (Some to) (placed nd None v.listed.on)) code rest next → length heads' ≡ length heads → length nodes' ≡ length nodes
-    → length froms' ≡ length froms → blocking_of nodes' (opposite nd) ≡ to
+    → length resume_at' ≡ length resume_at → blocking_of nodes' (opposite nd) ≡ to
     → ((k : ℕ) → (k ≡ opposite nd → ⊥) → blocking_of nodes' k ≡ blocking_of nodes k) → has_literal (clause_at cl (nd / 2)) to ≡ true
-    → (to ≡ blocking_of nodes nd → ⊥) → (to ≡ code → ⊥) → IsVisiting cl froms' heads' nodes' codes kept on set code rest next
-visited_move cl froms froms' heads heads' nodes nodes' codes kept on set code nd to rest place next v walk lh ln lf own others has_to beside other = record {
+    → (to ≡ blocking_of nodes nd → ⊥) → (to ≡ code → ⊥) → IsVisiting cl resume_at' heads' nodes' codes kept on set code rest next
+visited_move cl resume_at resume_at' heads heads' nodes nodes' codes kept on set code nd to rest place next v walk lh ln lf own others has_to beside other = record {
   listed = record {
     on = placed nd (Some to) (placed nd None v.listed.on);
     linked = walk.linked;
@@ -251,25 +251,25 @@ visited_move cl froms froms' heads heads' nodes nodes' codes kept on set code nd
         let ne : k ≢ nd = grind (arith, nat_tests) in ahead_of nd k rest (IsSettled on set (clause_at cl (k / 2)) (k / 2)) ne (v.settled k e m)
 
 -- a walk that is not at the end stands at a node
-pub visited_node : (cl : List (List ℕ)) (froms : List ℕ) (heads : List ℕ) (nodes : List Node) (codes : ℕ) (kept : List Bool) (on set : ℕ → Bool)
-    (code : ℕ) (rest : List ℕ) (place : Place) → IsVisiting cl froms heads nodes codes kept on set code rest place → (place.node ≡ 4294967295 → ⊥)
-    → (more : List ℕ) × IsVisiting cl froms heads nodes codes kept on set code (place.node ∷ more) place
-visited_node cl froms heads nodes codes kept on set code [] place v ne = absurd (ne v.walk.node)
-visited_node cl froms heads nodes codes kept on set code (x ∷ more) place v ne =
-    (more, subst (λ (y : ℕ). IsVisiting cl froms heads nodes codes kept on set code (y ∷ more) place) (sym v.walk.node) v)
+pub visited_node : (cl : List (List ℕ)) (resume_at : List ℕ) (heads : List ℕ) (nodes : List Node) (codes : ℕ) (kept : List Bool) (on set : ℕ → Bool)
+    (code : ℕ) (rest : List ℕ) (place : Place) → IsVisiting cl resume_at heads nodes codes kept on set code rest place → (place.node ≡ 4294967295 → ⊥)
+    → (more : List ℕ) × IsVisiting cl resume_at heads nodes codes kept on set code (place.node ∷ more) place
+visited_node cl resume_at heads nodes codes kept on set code [] place v ne = absurd (ne v.walk.node)
+visited_node cl resume_at heads nodes codes kept on set code (x ∷ more) place v ne =
+    (more, subst (λ (y : ℕ). IsVisiting cl resume_at heads nodes codes kept on set code (y ∷ more) place) (sym v.walk.node) v)
 
 -- a walk that is at the end has nothing ahead
-pub visited_end : (cl : List (List ℕ)) (froms : List ℕ) (heads : List ℕ) (nodes : List Node) (codes : ℕ) (kept : List Bool) (on set : ℕ → Bool)
-    (code : ℕ) (rest : List ℕ) (place : Place) → IsVisiting cl froms heads nodes codes kept on set code rest place → place.node ≡ 4294967295
-    → IsVisiting cl froms heads nodes codes kept on set code [] place
-visited_end cl froms heads nodes codes kept on set code [] place v e = v
-visited_end cl froms heads nodes codes kept on set code (x ∷ more) place v e =
+pub visited_end : (cl : List (List ℕ)) (resume_at : List ℕ) (heads : List ℕ) (nodes : List Node) (codes : ℕ) (kept : List Bool) (on set : ℕ → Bool)
+    (code : ℕ) (rest : List ℕ) (place : Place) → IsVisiting cl resume_at heads nodes codes kept on set code rest place → place.node ≡ 4294967295
+    → IsVisiting cl resume_at heads nodes codes kept on set code [] place
+visited_end cl resume_at heads nodes codes kept on set code [] place v e = v
+visited_end cl resume_at heads nodes codes kept on set code (x ∷ more) place v e =
     let real = v.listed.real x code v.walk.ahead.0 in absurd (omega (arith, e, v.walk.node, real.below, v.listed.many, v.walk.linked.few))
 
 -- at the end of the chain all clauses are settled that watch its literal
-pub all_settled : (cl : List (List ℕ)) (froms : List ℕ) (heads : List ℕ) (nodes : List Node) (codes : ℕ) (kept : List Bool) (on set : ℕ → Bool)
-    (code : ℕ) (place : Place) → IsVisiting cl froms heads nodes codes kept on set code [] place → AllSettled cl nodes on set code kept
-all_settled cl froms heads nodes codes kept on set code place v k rk m e = by (v.settled k (v.listed.there k rk m ∙ ap (λ (x : ℕ). Some x) e) m)
+pub all_settled : (cl : List (List ℕ)) (resume_at : List ℕ) (heads : List ℕ) (nodes : List Node) (codes : ℕ) (kept : List Bool) (on set : ℕ → Bool)
+    (code : ℕ) (place : Place) → IsVisiting cl resume_at heads nodes codes kept on set code [] place → AllSettled cl nodes on set code kept
+all_settled cl resume_at heads nodes codes kept on set code place v k rk m e = by (v.settled k (v.listed.there k rk m ∙ ap (λ (x : ℕ). Some x) e) m)
   where
     by : (has [] k ≡ true) ⊎ IsSettled on set (clause_at cl (k / 2)) (k / 2) → IsSettled on set (clause_at cl (k / 2)) (k / 2)
     by (inl h) = absurd (let w : ⊥ = cc in w)
@@ -289,9 +289,9 @@ even_beside : (c : ℕ) → opposite (2 * c) ≡ 2 * c + 1
 even_beside c = let e : 2 * c % 2 ≡ 0 = omega arith in let g : (2 * c % 2 == 0) ≡ true = grind (arith, nat_tests) in ap (λ (b : Bool). if b then 2 * c + 1 else 2 * c - 1) g
 
 -- the two literals that a clause watches stand at two of its places
-pub two_watched : (cl : List (List ℕ)) (froms heads : List ℕ) (nodes : List Node) (codes : ℕ) (kept : List Bool) → IsAtRest cl froms heads nodes codes kept
+pub two_watched : (cl : List (List ℕ)) (resume_at heads : List ℕ) (nodes : List Node) (codes : ℕ) (kept : List Bool) → IsAtRest cl resume_at heads nodes codes kept
     → AreTwoWatched cl nodes
-two_watched cl froms heads nodes codes kept r c below long = record {
+two_watched cl resume_at heads nodes codes kept r c below long = record {
   first = one.place;
   second = other.place;
   first_in = one.inside;

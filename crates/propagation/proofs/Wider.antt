@@ -6,7 +6,7 @@ use Rattle.cdcl_tables.proofs.published.Mirrors.{half_opposite}
 use Rattle.cdcl_tables.specs.Linked.{blocking_of}
 use Rattle.propagation.specs.declared.pending.Pending.{Pending}
 use Rattle.propagation.specs.declared.tables.Tables.{Tables}
-use Rattle.propagation.specs.declared.visit.Lists.{Lists}
+use Rattle.propagation.specs.declared.visit.WatchState.{WatchState}
 use Rattle.propagation.specs.Pending.{is_free}
 use Rattle.cdcl_defs.specs.State.{clause_at}
 use Rattle.propagation.specs.own.Visit.{literal_at, IsReal, IsAtRest}
@@ -18,13 +18,13 @@ use Rattle.propagation.specs.own.Added.{AreSame, AreWider}
 use Rattle.propagation.proofs.AsksKept.{asks_wider}
 
 -- a node of a clause is in the table of nodes, and so is the other one of its slot
-literal_wider : (cl : List (List ℕ)) (l l' : Lists) (node : ℕ) → AreWider l l' → 2 * length cl ≤ length l.chains.nodes.items → IsReal cl node
+literal_wider : (cl : List (List ℕ)) (l l' : WatchState) (node : ℕ) → AreWider l l' → 2 * length cl ≤ length l.chains.nodes.items → IsReal cl node
     → literal_at l'.chains.nodes.items node ≡ literal_at l.chains.nodes.items node
 literal_wider cl l l' node w m real = w.blockings (opposite node) (omega (arith, real.below, half_opposite node, m))
 
-pub rest_wider : (cl : List (List ℕ)) (l l' : Lists) (spare : ℕ) (kept : List Bool)
-    → IsAtRest cl l.froms.items l.chains.heads.items l.chains.nodes.items spare kept → AreWider l l'
-    → IsAtRest cl l'.froms.items l'.chains.heads.items l'.chains.nodes.items spare kept
+pub rest_wider : (cl : List (List ℕ)) (l l' : WatchState) (spare : ℕ) (kept : List Bool)
+    → IsAtRest cl l.resume_at.items l.chains.heads.items l.chains.nodes.items spare kept → AreWider l l'
+    → IsAtRest cl l'.resume_at.items l'.chains.heads.items l'.chains.nodes.items spare kept
 rest_wider cl l l' spare kept r w = record {
   on = r.on;
   linked = w.linked r.on r.linked;
@@ -44,7 +44,7 @@ complete_wider : (passes : ℕ → Bool) (p p' : Pending) → IsWider p p' → I
 complete_wider passes p p' w c k e = w.same k ∙ c k e
 
 -- there is more room
-sound_wider : (v : ℕ) (t : Tables) (l l' : Lists) (trail : List ℕ) (quiet : List Bool) → AreSound v t l trail quiet → AreWider l l'
+sound_wider : (v : ℕ) (t : Tables) (l l' : WatchState) (trail : List ℕ) (quiet : List Bool) → AreSound v t l trail quiet → AreWider l l'
     → AreSound v t l' trail quiet
 sound_wider v t l l' trail quiet i w = record {
   small = i.small;
@@ -61,7 +61,7 @@ sound_wider v t l l' trail quiet i w = record {
 }
 
 -- the tables that are read are the same
-pub sound_again : (v : ℕ) (t t' : Tables) (l : Lists) (trail : List ℕ) (quiet : List Bool) → AreSound v t l trail quiet → AreSame t t'
+pub sound_again : (v : ℕ) (t t' : Tables) (l : WatchState) (trail : List ℕ) (quiet : List Bool) → AreSound v t l trail quiet → AreSame t t'
     → AreSound v t' l trail quiet
 sound_again v t t' l trail quiet i e = record {
   small = i.small;
@@ -86,6 +86,6 @@ sound_again v t t' l trail quiet i e = record {
 }
 
 -- and so where room was made
-pub sound_room : (v : ℕ) (t t' : Tables) (l l' : Lists) (trail : List ℕ) (quiet : List Bool) → AreSound v t l trail quiet → AreSame t t'
+pub sound_room : (v : ℕ) (t t' : Tables) (l l' : WatchState) (trail : List ℕ) (quiet : List Bool) → AreSound v t l trail quiet → AreSame t t'
     → AreWider l l' → AreSound v t' l' trail quiet
 sound_room v t t' l l' trail quiet i e w = sound_again v t t' l' trail quiet (sound_wider v t l l' trail quiet i w) e

@@ -6,7 +6,7 @@ ghost use Rattle.propagation.specs.own.Asks.{IsAsk};
 ghost use Rattle.propagation.specs.own.Added.{HasSlotRoom, IsLoose, RestsWith, FreeWith, IsQuietBelow};
 
 use crate::fall::latest_two;
-use crate::visit::Lists;
+use crate::visit::WatchState;
 use cdcl_tables::assignment::Assignment;
 use clause_base::literal::Lit;
 use clause_base::view::View;
@@ -19,7 +19,7 @@ pub struct Entered {
     pub ask: u32,
 }
 
-impl Lists {
+impl WatchState {
     /// Watches two literals of a new clause.
     pub fn enter(&mut self, assignment: &Assignment, clause: &[Lit], slot: u32) -> Entered
         requires small { assignment.now.variables ≤ 2147483647 }
@@ -39,7 +39,7 @@ impl Lists {
         let two = latest_two(assignment, clause);
         let first = two.first;
         let second = two.second;
-        self.froms[slot as usize] = 0;
+        self.resume_at[slot as usize] = 0;
         let a = clause[first as usize];
         let b = clause[second as usize];
         self.chains.link_two(2 * slot, a.0, b.0);
@@ -63,7 +63,7 @@ impl Lists {
         ensures pending { self.new.pending ≡ self.old.pending }
     {
         let length = clause.len() as u32;
-        self.froms[slot as usize] = 0;
+        self.resume_at[slot as usize] = 0;
         let a = clause.get(length as usize - 1);
         let b = clause.get(length as usize - 2);
         self.chains.link_two(2 * slot, a.0, b.0);

@@ -11,7 +11,7 @@ ghost use Rattle.propagation.specs.own.Given.{AreGiven, AreOthers, AreRising, Is
 use crate::pending::Pending;
 use crate::room::LEARNED;
 use crate::scan::only_ask;
-use crate::visit::Lists;
+use crate::visit::WatchState;
 use cdcl_tables::chains::Chains;
 use cdcl_tables::store::Store;
 use clause_base::clause_list::ClauseList;
@@ -24,7 +24,7 @@ use std::alloc::Global;
 #[derive(Drop)]
 pub struct Given {
     pub slots: Vec<u32>,
-    pub lists: Lists,
+    pub lists: WatchState,
 }
 
 /// The places in a list of those clauses that have fewer than two literals, or more, in order, and how many clauses there are.
@@ -77,12 +77,12 @@ impl Given {
     pub fn none(alloc: Global) -> Given {
         Given {
             slots: Vec::new(alloc),
-            lists: Lists {
+            lists: WatchState {
                 chains: Chains {
                     heads: Vec::new(alloc),
                     nodes: Vec::new(alloc),
                 },
-                froms: Vec::new(alloc),
+                resume_at: Vec::new(alloc),
                 pending: Pending::none(alloc),
             },
         }
@@ -93,7 +93,7 @@ impl Given {
         requires codes { codes ≤ 4294967294 }
         requires few { count ≤ 1073741824 }
         ensures slots { IfOk result (λ g. g.slots.items ≡ []) }
-        ensures froms { IfOk result (λ g. g.lists.froms.items ≡ []) }
+        ensures resume_at { IfOk result (λ g. g.lists.resume_at.items ≡ []) }
         ensures pending { IfOk result (λ g. (k : ℕ) → words_have g.lists.pending.numbers k ≡ false) }
         ensures linked { IfOk result (λ g. IsLinked g.lists.chains.heads.items g.lists.chains.nodes.items (λ k. None)) }
         ensures codes { IfOk result (λ g. length g.lists.chains.heads.items ≡ codes) }
@@ -101,16 +101,16 @@ impl Given {
         ensures asks { IfOk result (λ g. length g.lists.pending.asks.items ≡ count) }
     {
         let Given { mut slots, lists } = self;
-        let (chains, mut froms, pending) = lists.into_parts();
+        let (chains, mut resume_at, pending) = lists.into_parts();
         slots.clear();
         slots.reserve(longs)?;
-        froms.clear();
-        froms.reserve(longs)?;
+        resume_at.clear();
+        resume_at.reserve(longs)?;
         Ok(Given {
             slots,
-            lists: Lists {
+            lists: WatchState {
                 chains: chains.renewed(codes, longs.saturating_add(longs))?,
-                froms,
+                resume_at,
                 pending: pending.renewed(count)?,
             },
         })

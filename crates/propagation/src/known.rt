@@ -22,18 +22,18 @@ const NO_CLAUSE: u32 = 4_294_967_295;
 
 /// The first clauses that are kept and pending: each that is so and whose number is below `from` is one of `numbers`.
 #[derive(Clone, Copy)]
-pub struct Known {
+pub struct PendingUpTo {
     pub numbers: [u32; FEW],
     pub from: u32,
 }
 
-impl Known {
+impl PendingUpTo {
     /// No clause whose number is below this one is kept and pending.
-    pub fn none_below(from: u32) -> Known
+    pub fn none_below(from: u32) -> PendingUpTo
         ensures from { result.from ≡ from }
         ensures long { length result.numbers ≡ 4 }
     {
-        Known {
+        PendingUpTo {
             numbers: [NO_CLAUSE; FEW],
             from,
         }
@@ -46,7 +46,7 @@ pub fn list_from(
     assignment: &Assignment,
     pending: &mut Pending,
     place: usize,
-) -> Known
+) -> PendingUpTo
     requires read { AreRead tables.now assignment.now pending.old }
     requires place { place ≤ 4 }
     ensures listed { (k : ℕ) → pending_in tables.now assignment.now.trail k ≡ true → words_have pending.old.numbers k ≡ true → k < result.from → IsListed result.numbers place k }
@@ -57,10 +57,10 @@ pub fn list_from(
 {
     next(tables, assignment, pending);
     match pending.numbers.least() {
-        None => Known::none_below(tables.kept.len() as u32),
+        None => PendingUpTo::none_below(tables.kept.len() as u32),
         Some(number) => {
             if place == FEW {
-                return Known::none_below(number);
+                return PendingUpTo::none_below(number);
             }
             let ask = pending.asks[number as usize];
             pending.numbers.remove_least();

@@ -12,18 +12,18 @@ ghost use Rattle.propagation.specs.Known.{AreListed};
 ghost use Rattle.propagation.specs.Pending.{PropagatorView};
 
 use crate::front::next;
-use crate::known::{Known, list_from};
+use crate::known::{PendingUpTo, list_from};
 use crate::marks::mark_pairs;
 use crate::pending::Pending;
 use crate::quiet::raise;
 use crate::room::make_room;
 use crate::scan::status_of;
-use crate::spare::Spare;
+use crate::spare::OldTables;
 use crate::steps::Steps;
 use crate::tables::Tables;
 use crate::take_slot::take_slot;
 use crate::undo::{Back, refresh, take_back};
-use crate::visit::Lists;
+use crate::visit::WatchState;
 use bit_sets::first::First;
 use bit_sets::flat::Flat;
 use bit_sets::layer::Layer;
@@ -51,7 +51,7 @@ pub struct Propagator {
     tables: Tables,
     trail: Trail,
     pairs: PairIndex,
-    lists: Lists,
+    lists: WatchState,
     /// For each length of the trail below the whole one whether it is known that nothing is pending there.
     quiet: Vec<bool>,
 }
@@ -85,7 +85,7 @@ impl Propagator {
         alloc: Global,
         formula: &Formula,
         trail: Trail,
-        spare: Spare,
+        spare: OldTables,
     ) -> Result<Propagator, Memory>
         requires { trail ≡ record { variables = formula.now.variables; entries = [] } }
         ensures { IfOk result (λ p. p ≡ record { variables = formula.now.variables; clauses = formula.now.clauses; kept = replicate (length formula.now.clauses) true; entries = [] }) }
@@ -96,7 +96,7 @@ impl Propagator {
         let store = Store::new(alloc, formula)?;
         let pairs = PairIndex::new(alloc, formula)?;
         let spare = spare.fitted(alloc, &store, formula)?;
-        let Spare { kept, quiet, given } = spare;
+        let OldTables { kept, quiet, given } = spare;
         let steps = Steps::new(alloc, formula, &given.slots)?;
         Ok(Propagator {
             variables,
@@ -118,7 +118,7 @@ impl Propagator {
         ensures { IfOk result (λ p. p ≡ record { variables = formula.now.variables; clauses = formula.now.clauses; kept = replicate (length formula.now.clauses) true; entries = [] }) }
     {
         let trail = Trail::new(alloc, formula.variables())?;
-        Propagator::over(alloc, formula, trail, Spare::none(alloc))
+        Propagator::over(alloc, formula, trail, OldTables::none(alloc))
     }
 
     /// The clauses of a formula, all kept, where no variable has a value, in the memory of a propagator that is done with. Where
@@ -241,7 +241,7 @@ impl Propagator {
     }
 
     /// Which clauses are kept and pending, by a short list and the number from which on any may be. It takes no memory.
-    pub fn known(&mut self) -> Known
+    pub fn known(&mut self) -> PendingUpTo
         ensures listed { AreListed (is_pending_in self.old.clauses self.old.kept (has_literal (literals self.old.entries))) result.numbers result.from }
         ensures below { result.from ≤ length self.old.clauses }
         ensures same { self.new ≡ self.old }

@@ -5,7 +5,7 @@ ghost use Rattle.cdcl_tables.specs.Linked.{IsLinked, blocking_of};
 ghost use Rattle.propagation.specs.own.Added.{AreSame, AreWider, HasRoom, HasRoomBelow};
 
 use crate::tables::Tables;
-use crate::visit::Lists;
+use crate::visit::WatchState;
 use cdcl_tables::chains::Chains;
 use cdcl_tables::refill::refill;
 use std::alloc::AllocError;
@@ -49,18 +49,18 @@ fn widen_nodes(chains: &mut Chains, slot: u32) -> Result<(), AllocError>
 }
 
 /// Makes room for where the search in a slot's clause goes on, where there is room for those of all slots before it.
-fn widen_froms(froms: &mut Vec<u32>, slot: u32) -> Result<(), AllocError>
-    requires many { slot ≤ length froms.old.items }
-    ensures room { OnOk result (slot < length froms.new.items) }
-    ensures more { length froms.old.items ≤ length froms.new.items }
+fn widen_froms(resume_at: &mut Vec<u32>, slot: u32) -> Result<(), AllocError>
+    requires many { slot ≤ length resume_at.old.items }
+    ensures room { OnOk result (slot < length resume_at.new.items) }
+    ensures more { length resume_at.old.items ≤ length resume_at.new.items }
 {
-    if froms.len() <= slot as usize {
-        froms.push(0)?;
+    if resume_at.len() <= slot as usize {
+        resume_at.push(0)?;
     }
     Ok(())
 }
 
-impl Lists {
+impl WatchState {
     /// Makes room for a clause and a slot, where there is room for all before them.
     pub fn widen(&mut self, number: u32, slot: u32) -> Result<(), AllocError>
         requires { HasRoomBelow number slot self.old }
@@ -69,14 +69,14 @@ impl Lists {
     {
         self.pending.widen(number)?;
         widen_nodes(&mut self.chains, slot)?;
-        widen_froms(&mut self.froms, slot)
+        widen_froms(&mut self.resume_at, slot)
     }
 }
 
 /// Makes room for the next clause in all tables but that of the clauses.
 pub fn make_room(
     tables: &mut Tables,
-    lists: &mut Lists,
+    lists: &mut WatchState,
     number: u32,
     slot: u32,
 ) -> Result<(), AllocError>

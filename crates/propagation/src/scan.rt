@@ -69,7 +69,7 @@ pub fn ask_of(assignment: &Assignment, clause: &View) -> Option<u32>
 
 /// A place from `low` up to `high` whose literal, which goes up by a number, is not false and not the skipped one.
 #[inline(always)]
-fn find_rest(
+fn new_watch_in_time(
     assignment: &Assignment,
     lits: &[Lit],
     up: u32,
@@ -96,7 +96,7 @@ fn find_rest(
 /// A place from `low` up to `high` whose literal is not false and not the skipped one. The literals below the limit of the view are
 /// searched in one run and the others in a second one, so that neither chooses in each turn how a literal is moved.
 #[inline(always)]
-pub fn find_free(
+pub fn new_watch_between(
     assignment: &Assignment,
     clause: &View,
     skipped: u32,
@@ -115,7 +115,7 @@ pub fn find_free(
     for place in low..high {
         let lit = lits[place];
         if lit.0 >= moving.limit {
-            return find_rest(assignment, lits, moving.high, skipped, place, high);
+            return new_watch_in_time(assignment, lits, moving.high, skipped, place, high);
         }
         let code = moving.low + lit.0;
         if !assignment.is_false(code) && code != skipped {
@@ -126,7 +126,7 @@ pub fn find_free(
 }
 
 /// A place whose literal is not false and not the skipped one, sought from `from` on and then from the front.
-pub fn find_other(assignment: &Assignment, clause: &View, skipped: u32, from: u32) -> Option<u32>
+pub fn new_watch(assignment: &Assignment, clause: &View, skipped: u32, from: u32) -> Option<u32>
     requires below { (p : ℕ) → p < length clause.now → slice_index clause.now p < 2 * assignment.now.variables }
     requires short { length clause.now ≤ 4294967295 }
     ensures none { MatchOption result (AreFalseBut assignment.now.trail clause.now skipped) (λ p. is_free (has_literal assignment.now.trail) (slice_index clause.now p) ≡ true) }
@@ -135,8 +135,8 @@ pub fn find_other(assignment: &Assignment, clause: &View, skipped: u32, from: u3
 {
     let length = clause.len();
     let middle = (from as usize).min(length);
-    match find_free(assignment, clause, skipped, middle, length) {
+    match new_watch_between(assignment, clause, skipped, middle, length) {
         Some(place) => Some(place),
-        None => find_free(assignment, clause, skipped, 0, middle),
+        None => new_watch_between(assignment, clause, skipped, 0, middle),
     }
 }

@@ -12,16 +12,16 @@ use std::alloc::Global;
 
 /// The tables by clause, by slot and by length of the trail.
 #[derive(Drop)]
-pub struct Spare {
+pub struct OldTables {
     pub kept: Vec<bool>,
     pub quiet: Vec<bool>,
     pub given: Given,
 }
 
-impl Spare {
+impl OldTables {
     /// Tables without room. It takes no memory.
-    pub fn none(alloc: Global) -> Spare {
-        Spare {
+    pub fn none(alloc: Global) -> OldTables {
+        OldTables {
             kept: Vec::new(alloc),
             quiet: Vec::new(alloc),
             given: Given::none(alloc),
@@ -29,13 +29,18 @@ impl Spare {
     }
 
     /// The tables of the clauses of a formula, of which a store has a copy: all are kept, and no literal is true.
-    pub fn fitted(self, alloc: Global, store: &Store, formula: &Formula) -> Result<Spare, Memory>
+    pub fn fitted(
+        self,
+        alloc: Global,
+        store: &Store,
+        formula: &Formula,
+    ) -> Result<OldTables, Memory>
         requires { store.now ≡ formula.now.clauses }
         ensures kept { IfOk result (λ s. s.kept.items ≡ replicate (length formula.now.clauses) true) }
         ensures quiet { IfOk result (λ s. length s.quiet.items ≡ formula.now.variables + 1) }
         ensures given { IfOk result (λ s. AreGiven (2 * formula.now.variables) store.now (length store.now) s.given) }
     {
-        let Spare {
+        let OldTables {
             mut kept,
             mut quiet,
             given,
@@ -45,6 +50,6 @@ impl Spare {
         keep_all(&mut kept, count)?;
         fit_quiet(&mut quiet, variables)?;
         let given = given.renewed(alloc, store, formula, 2 * variables)?;
-        Ok(Spare { kept, quiet, given })
+        Ok(OldTables { kept, quiet, given })
     }
 }

@@ -3,9 +3,9 @@
 ghost use Rattle.std.specs.Prelude.{◌≡◌, ◌<◌, length, false, slice_index, slice_index_or};
 
 use crate::given::Given;
-use crate::spare::Spare;
+use crate::spare::OldTables;
 use crate::steps::Steps;
-use crate::visit::Lists;
+use crate::visit::WatchState;
 use cdcl_tables::store::Store;
 use containers::let_go;
 
@@ -27,14 +27,14 @@ impl Drop for Tables {
 
 impl Tables {
     /// What can be taken again of these tables, with those that are beside them.
-    pub fn into_spare(self, lists: Lists, quiet: Vec<bool>) -> Spare {
+    pub fn into_spare(self, lists: WatchState, quiet: Vec<bool>) -> OldTables {
         let Tables {
             store: _,
             kept,
             slots,
             steps: _,
         } = self;
-        Spare {
+        OldTables {
             kept,
             quiet,
             given: Given { slots, lists },

@@ -7,7 +7,7 @@ ghost use Rattle.propagation.specs.own.Added.{HasSlotRoom, IsLoose, IsTaken, IsQ
 
 use crate::enter::Entered;
 use crate::scan::only_ask;
-use crate::visit::Lists;
+use crate::visit::WatchState;
 use cdcl_tables::assignment::Assignment;
 use clause_base::literal::Lit;
 use clause_base::view::View;
@@ -16,7 +16,7 @@ use std::alloc::AllocError;
 /// Gives a new clause the next slot, for which there is room, if it has two literals or more.
 pub fn take_slot(
     slots: &mut Vec<u32>,
-    lists: &mut Lists,
+    lists: &mut WatchState,
     assignment: &Assignment,
     clause: &[Lit],
     number: u32,

@@ -12,7 +12,7 @@ ghost use Rattle.propagation.specs.own.Tables.{AreTables, clauses_in, flags_in};
 ghost use Rattle.propagation.specs.own.Visit.{AreSettled, AreVisited, GoesOn, IsAtRest, MovesToFree, Grows};
 
 use crate::pending::Pending;
-use crate::scan::find_other;
+use crate::scan::new_watch;
 use crate::slots::{is_slot_kept, slot_clause};
 use crate::tables::Tables;
 use cdcl_tables::assignment::Assignment;
@@ -21,33 +21,33 @@ use clause_base::literal::Lit;
 use containers::let_go;
 
 /// What changes where a literal becomes false.
-pub struct Lists {
+pub struct WatchState {
     pub chains: Chains,
     /// For each slot the place where the search for another literal to watch goes on.
-    pub froms: Vec<u32>,
+    pub resume_at: Vec<u32>,
     pub pending: Pending,
 }
 
 /// All parts are let go in one call, so that a proof has one step for it and not one for each part.
-impl Drop for Lists {
+impl Drop for WatchState {
     fn drop(self) {
-        let_go!(self: Lists { chains, froms, pending });
+        let_go!(self: WatchState { chains, resume_at, pending });
     }
 }
 
-impl Lists {
+impl WatchState {
     /// What it is made of.
     pub fn into_parts(self) -> (Chains, Vec<u32>, Pending) {
-        let Lists {
+        let WatchState {
             chains,
-            froms,
+            resume_at,
             pending,
         } = self;
-        (chains, froms, pending)
+        (chains, resume_at, pending)
     }
 }
 
-impl Lists {
+impl WatchState {
     /// Visits the clause of the node at a place of the chain of a literal that is false. The result is the place after it.
     #[inline(always)]
     fn visit(&mut self, tables: &Tables, assignment: &Assignment, code: u32, place: Place) -> Place
@@ -70,9 +70,9 @@ impl Lists {
             return self.chains.drop_at(place, code);
         }
         let clause = slot_clause(tables, slot);
-        match find_other(assignment, &clause, beside, self.froms[slot as usize]) {
+        match new_watch(assignment, &clause, beside, self.resume_at[slot as usize]) {
             Some(found) => {
-                self.froms[slot as usize] = found;
+                self.resume_at[slot as usize] = found;
                 let free = clause.get(found as usize);
                 // The two nodes of a slot are numbered as the two literals of a variable.
                 let other = Lit(place.node).opposite();
@@ -92,8 +92,8 @@ impl Lists {
         requires falsified { has_literal assignment.now.trail (opposite code) ≡ true }
         requires tables { AreTables tables.now (2 * assignment.now.variables) }
         requires asks { HasAsks tables.now.store assignment.now.trail self.old.pending }
-        requires rest { IsAtRest (clauses_in tables.now) self.old.froms.items self.old.chains.heads.items self.old.chains.nodes.items (2 * assignment.now.variables) (flags_in tables.now) }
-        ensures rest { IsAtRest (clauses_in tables.now) self.new.froms.items self.new.chains.heads.items self.new.chains.nodes.items (2 * assignment.now.variables) (flags_in tables.now) }
+        requires rest { IsAtRest (clauses_in tables.now) self.old.resume_at.items self.old.chains.heads.items self.old.chains.nodes.items (2 * assignment.now.variables) (flags_in tables.now) }
+        ensures rest { IsAtRest (clauses_in tables.now) self.new.resume_at.items self.new.chains.heads.items self.new.chains.nodes.items (2 * assignment.now.variables) (flags_in tables.now) }
         ensures settled { AreSettled tables.now self.new assignment.now.trail code }
         ensures moves { MovesToFree (clauses_in tables.now) self.old.chains.nodes.items self.new.chains.nodes.items (has_literal assignment.now.trail) }
         ensures grows { Grows (words_have self.old.pending.numbers) (words_have self.new.pending.numbers) }

@@ -9,6 +9,7 @@ use Rattle.step_encoding.specs.Numbers.{literals_of}
 use Rattle.horizon_run.specs.Run.{RunView, choice_in, moved_to, IsMoved, IsReached}
 use Rattle.race.specs.Input.{RaceInput}
 use Rattle.race.specs.State.{LiveRun}
+use Rattle.horizon_rates.specs.Limits.{last_horizon}
 
 -- a run as the definition sees it
 abbrev pub live_run_of : RunView → LiveRun
@@ -22,7 +23,7 @@ horizon_of run = run.formula.name
 pub record IsRunOf (input : RaceInput) (run : RunView) : Type 0 where
   pub chosen : input.choose run.formula.name ≡ choice_in run
   pub formula : input.formula run.formula.name ≡ run.formula
-  pub low : run.formula.name ≤ 255
+  pub low : run.formula.name ≤ last_horizon
   pub small : literals_of run.formula ≤ planner_literals
   pub moved : IsMoved run
   pub reached : (k : ℕ) → IsReached (choice_in run) run.formula k

@@ -12,6 +12,7 @@ ghost use Rattle.race.specs.Runs.{conflicts_of, AreLow, MayAdvance};
 ghost use Rattle.race.specs.own.Filling.{racing_of, IsSame};
 ghost use Rattle.race.specs.Starts.{started, fitting, filled, too_large};
 ghost use Rattle.race.specs.Tied.{race_state, IsTied, KeepsBooks};
+ghost use Rattle.horizon_rates.specs.Limits.{last_horizon};
 
 use crate::begun::{Begun, Opening};
 use crate::fresh::fresh_run;
@@ -72,7 +73,7 @@ impl Filling {
         requires rates { input.rates ≡ rates.now }
         requires formula { input.formula ≡ F.formula_of form.now }
         ensures value { result ≡ (if nat_lt (length self.now.runs.items) input.rates.width then fitting input (listed input.rates self.now.window.next) else None) }
-        ensures low { IfSome result (λ h. h ≤ 255) }
+        ensures low { IfSome result (λ h. h ≤ last_horizon) }
         ensures small { IfSome result (λ h. literals_of (F.formula_of form.now h) ≤ planner_literals) }
         ensures listed { IfSome result (λ h. listed self.now.window.rates self.now.window.next ≡ Some h) }
         ensures narrow { IfSome result (λ h. length self.now.window.live < self.now.window.rates.width) }
@@ -95,7 +96,7 @@ impl Filling {
         requires choose { input.choose ≡ (λ h. choice_of (F.task form.now) (F.layout_of form.now h)) }
         requires formula { input.formula ≡ F.formula_of form.now }
         requires run { IsFreshOf F.StepForm form.now horizon run }
-        requires horizon { horizon ≤ 255 }
+        requires horizon { horizon ≤ last_horizon }
         requires small { literals_of (F.formula_of form.now horizon) ≤ planner_literals }
         requires listed { listed self.old.window.rates self.old.window.next ≡ Some horizon }
         requires narrow { length self.old.window.live < self.old.window.rates.width }
@@ -149,7 +150,7 @@ impl Filling {
         ghost input: { RaceInput }
         requires { IsTied input (racing_of self.now) }
         ensures value { result ≡ too_large input (race_state (racing_of self.now)) }
-        ensures low { IfSome result (λ h. h ≤ 255) }
+        ensures low { IfSome result (λ h. h ≤ last_horizon) }
     {
         if !self.runs.is_empty() {
             return None;

@@ -13,6 +13,7 @@ use Rattle.requests.specs.Passed.{Passed}
 use Rattle.requests.specs.own.Ranges.{Has, HasNumbers, HasSettings}
 use Rattle.requests.proofs.published.ListReaders.{one_passes}
 use Rattle.requests.proofs.published.Ranges.{number_in, found_each}
+use Rattle.horizon_rates.specs.Limits.{last_horizon}
 
 -- the word for the first list of horizons, which is the default, passes
 list_passes : (by : Readers) → AreReaders by → accepts false by.algorithms (codes "a") ≡ true
@@ -39,8 +40,8 @@ race_of algorithms rules rows passed all =
       quota = each 2 1 10000 (codes "quota") (codes "50") refl;
       percent = each 3 1 99 (codes "percent") (codes "50") refl;
       growth = each 4 101 400 (codes "growth") (codes "150") refl;
-      start = each 5 0 255 (codes "start") (codes "0") refl;
-      max = each 6 0 255 (codes "max-horizon") (codes "64") refl;
+      start = each 5 0 last_horizon (codes "start") (codes "0") refl;
+      max = each 6 0 last_horizon (codes "max-horizon") (codes "64") refl;
       budget = each 7 0 1000000 (codes "budget") (codes "100000") refl;
       slice = each 8 1 10000 (codes "slice") (codes "10") refl;
     }
@@ -60,6 +61,6 @@ numbers_of by Gen rows passed =
     (number_in rules rows passed (codes "number") _ 1 64 refl refl, settings_of by.algorithms rules rows passed refl refl)
 numbers_of by Prove rows passed =
     let each = number_in (command_of by Prove).top.rules rows passed in
-    (each (codes "horizon") _ 0 255 refl refl, each (codes "budget") _ 0 1000000 refl refl)
+    (each (codes "horizon") _ 0 last_horizon refl refl, each (codes "budget") _ 0 1000000 refl refl)
 numbers_of by Verify rows passed = tt
 numbers_of by Batch rows passed = race_of by.algorithms (command_of by Batch).top.rules rows passed refl

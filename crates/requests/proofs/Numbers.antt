@@ -3,11 +3,12 @@ use Rattle.std.proofs.Common.{◌≡◌, ◌≤◌, ap, subst}
 use Rattle.std.proofs.Props.{props}
 use Rattle.horizon_rates.specs.declared.settings.Settings.{Settings}
 use Rattle.requests.specs.Seen.{Numbers, numbers}
+use Rattle.horizon_rates.specs.Limits.{last_horizon}
 
 abbrev RatesRanges : Numbers → Type 0
 RatesRanges n =
     ((1 ≤ n.width) × (n.width ≤ 16)) × ((1 ≤ n.quota) × (n.quota ≤ 10000)) × ((1 ≤ n.percent) × (n.percent ≤ 99))
-    × ((101 ≤ n.growth) × (n.growth ≤ 400)) × (n.start ≤ 255) × (n.max ≤ 255)
+    × ((101 ≤ n.growth) × (n.growth ≤ 400)) × (n.start ≤ last_horizon) × (n.max ≤ last_horizon)
 
 abbrev Ranges : Numbers → Type 0
 Ranges n = RatesRanges n × (n.budget ≤ 1000000) × ((1 ≤ n.slice) × (n.slice ≤ 10000)) × ((1 ≤ n.workers) × (n.workers ≤ 16))

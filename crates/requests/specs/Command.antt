@@ -10,6 +10,7 @@ use Rattle.requests.specs.declared.command.Name.{Name}
 use Rattle.requests.specs.declared.command.Name.TheVariants.{Plan, Check, Ground, Order, Gen, Prove, Verify, Batch}
 use Rattle.requests.specs.declared.command.Readers.{Readers}
 use Rattle.requests.specs.declared.request.Stepping.TheVariants.{Exists, All}
+use Rattle.horizon_rates.specs.Limits.{last_horizon}
 
 -- The words of each list.
 abbrev pub algorithm_words : List Text
@@ -51,8 +52,8 @@ window_options algorithms =
 abbrev pub list_options : List Rule
 list_options =
     number (codes "growth") 101 400 (codes "150")
-    ∷ number (codes "start") 0 255 (codes "0")
-    ∷ number (codes "max-horizon") 0 255 (codes "64")
+    ∷ number (codes "start") 0 last_horizon (codes "0")
+    ∷ number (codes "max-horizon") 0 last_horizon (codes "64")
     ∷ []
 
 -- The option of the budget.
@@ -100,7 +101,7 @@ rules_of by Order = two
 rules_of by Gen = reading_word (codes "kind") by.kinds
     ∷ reading_word (codes "number") (reader.Signed (pos 1) (pos 64))
     ∷ (options by.algorithms ++ option (codes "show") by.shows (codes "none") ∷ [])
-rules_of by Prove = two ++ reading_word (codes "horizon") (reader.Signed (pos 0) (pos 255)) ∷ budget_option ∷ []
+rules_of by Prove = two ++ reading_word (codes "horizon") (reader.Signed (pos 0) (pos last_horizon)) ∷ budget_option ∷ []
 rules_of by Verify = two ++ word (codes "certificate") ∷ []
 rules_of by Batch = word (codes "domain") ∷ many_words (codes "problem")
     ∷ (race_options by.algorithms ++ option (codes "turns") by.turns (codes "forward") ∷ [])

@@ -18,6 +18,7 @@ use Rattle.requests.specs.declared.request.Turns.{Turns}
 use Rattle.requests.specs.declared.request.Turns.TheVariants as turnings
 use Rattle.requests.specs.declared.request.Request.{Request}
 use Rattle.requests.specs.declared.request.Request.TheVariants as request
+use Rattle.horizon_rates.specs.Limits.{last_horizon}
 
 -- The settings of a race, as numbers; their ranges are those of the readers.
 pub record Numbers : Type 0 where
@@ -147,6 +148,6 @@ files_of (batches d ps n t) = d ∷ ps
 -- problems there are.
 abbrev pub IsSized : Seen → Type 0
 IsSized (generates k n s w) = (1 ≤ n) × (n ≤ 64)
-IsSized (proves d p h b) = (h ≤ 255) × (b ≤ 1000000)
+IsSized (proves d p h b) = (h ≤ last_horizon) × (b ≤ 1000000)
 IsSized (batches d ps n t) = (1 ≤ length ps) × (length ps ≤ 16)
 IsSized _ = ⊤

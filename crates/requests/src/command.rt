@@ -8,7 +8,11 @@ use crate::request::Stepping;
 use crate::{Argument, put, with_all};
 use clap::Command;
 use clap::builder::ValueParser;
+use horizon_rates::LAST_HORIZON;
 use std::alloc::{AllocError, Global};
+
+// The greatest horizon, in the type of a command line's numbers.
+const GREATEST_HORIZON: i64 = LAST_HORIZON as i64;
 
 /// The commands, by the word that names each.
 #[derive(Clone, Copy)]
@@ -83,8 +87,12 @@ fn put_race<'a>(into: &mut Vec<Argument<'a>>, algorithms: ValueParser<'a>) -> Re
             Argument::Long("quota", ValueParser::Signed(1, 10000), "50"),
             Argument::Long("percent", ValueParser::Signed(1, 99), "50"),
             Argument::Long("growth", ValueParser::Signed(101, 400), "150"),
-            Argument::Long("start", ValueParser::Signed(0, 255), "0"),
-            Argument::Long("max-horizon", ValueParser::Signed(0, 255), "64"),
+            Argument::Long("start", ValueParser::Signed(0, GREATEST_HORIZON), "0"),
+            Argument::Long(
+                "max-horizon",
+                ValueParser::Signed(0, GREATEST_HORIZON),
+                "64",
+            ),
             Argument::Long("budget", ValueParser::Signed(0, 1000000), "100000"),
             Argument::Long("slice", ValueParser::Signed(1, 10000), "10"),
         ],
@@ -167,7 +175,7 @@ fn put_arguments<'a>(
             &[
                 domain,
                 problem,
-                Argument::Read("horizon", ValueParser::Signed(0, 255)),
+                Argument::Read("horizon", ValueParser::Signed(0, GREATEST_HORIZON)),
                 Argument::Long("budget", ValueParser::Signed(0, 1000000), "100000"),
             ],
         ),

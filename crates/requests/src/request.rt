@@ -71,7 +71,7 @@ pub enum Request<'a> {
         settings: Settings,
         show: Show,
     },
-    /// A certificate that there is no plan up to this horizon, from 0 to 255, by at most so many conflicts, from 0 to
+    /// A certificate that there is no plan up to this horizon, from 0 to the greatest one, by at most so many conflicts, from 0 to
     /// 1,000,000.
     Prove {
         domain: &'a str,

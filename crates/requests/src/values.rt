@@ -9,7 +9,7 @@ use crate::command::Name;
 use crate::request::{Problems, Request, Show, Turns};
 use crate::{Memory, number, text, texts};
 use clap::ArgMatches;
-use horizon_rates::{Algorithm, Rates, Settings};
+use horizon_rates::{Algorithm, LAST_HORIZON, Rates, Settings};
 use plan_gen::Kind;
 use std::alloc::Global;
 
@@ -75,8 +75,8 @@ fn settings_with(matches: &ArgMatches<'_>, workers: u32) -> Settings
         quota: number(matches, "quota", 1, 10000),
         percent: number(matches, "percent", 1, 99),
         growth: number(matches, "growth", 101, 400),
-        start: number(matches, "start", 0, 255),
-        max: number(matches, "max-horizon", 0, 255),
+        start: number(matches, "start", 0, LAST_HORIZON),
+        max: number(matches, "max-horizon", 0, LAST_HORIZON),
     };
     Settings {
         rates,
@@ -121,7 +121,7 @@ pub(crate) fn request_in<'a>(
         Name::Prove => Request::Prove {
             domain,
             problem,
-            horizon: number(matches, "horizon", 0, 255),
+            horizon: number(matches, "horizon", 0, LAST_HORIZON),
             budget: u64::from(number(matches, "budget", 0, 1000000)),
         },
         Name::Verify => Request::Verify {

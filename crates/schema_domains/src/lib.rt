@@ -3,8 +3,8 @@
 //!
 //! `specs/own/Thinned.antt` says which task is left, `specs/own/Domains.antt` which types have a list.
 //!
-//! `AtomTable` of atom_join and the joins look at the schemas that are made here: a condition that is the one of the effect before is made
-//! distinct once and shared. `proofs/published/Same.antt` shows that the task is grounded as the one of the files.
+//! `Domains` holds the schemas so made; a condition that is the one of the effect before is made distinct once and shared.
+//! `proofs/published/Same.antt` shows that the task is grounded as the one of the files.
 #![tactic(auto)]
 
 mod distinct;

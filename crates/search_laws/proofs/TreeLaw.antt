@@ -7,7 +7,7 @@ use Rattle.gt_core.specs.Lawful.{is_task}
 use Rattle.gt_core.specs.Execution.{Runs, run, next_of_one, next_values}
 use Rattle.gt_core.proofs.published.Within.{lawful}
 use Rattle.gt_core.proofs.published.SequenceLaw.{Agree, run_agrees, run_joined, can_run_joined}
-use Rattle.search_laws.specs.Reached.{IsReached}
+use Rattle.gt_core.specs.Reached.{IsReached}
 use Rattle.search_laws.specs.Tree.{IsTree, TreeIsReached}
 use Rattle.search_laws.proofs.published.SearchLaw.{at_range}
 

@@ -4,7 +4,7 @@ use Rattle.gt_core.specs.Literal.{state_of}
 use Rattle.gt_core.specs.Task.{Task}
 use Rattle.gt_core.specs.Lawful.{is_task}
 use Rattle.gt_core.specs.Execution.{Runs, next_values}
-use Rattle.search_laws.specs.Reached.{IsReached}
+use Rattle.gt_core.specs.Reached.{IsReached}
 
 -- a state is the one after an action in a state of a list, with a number below a bound, in which the action can run
 pub record IsAfter (task : Task) (states : List (List Bool)) (bound parent action : ℕ) (s : List Bool) : Type 0 where

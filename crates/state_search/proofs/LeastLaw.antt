@@ -6,12 +6,12 @@ use Rattle.gt_core.specs.Literal.{state_of}
 use Rattle.gt_core.specs.Task.{Task, initial_state}
 use Rattle.gt_core.specs.Lawful.{is_task}
 use Rattle.gt_core.specs.Execution.{IsGoal}
-use Rattle.gt_core.specs.Laws.{IsRunToGoal}
+use Rattle.gt_core.specs.Laws.{IsRunToGoal, HasNoRun}
 use Rattle.state_store.specs.Store.{Stored}
 use Rattle.state_store.specs.Distinct.{AreDistinct}
 use Rattle.search_laws.specs.Search.{ClosedListIsNoPlan, DepthsHaveNoShorter}
 use Rattle.search_laws.specs.Tree.{TreeIsReached}
-use Rattle.state_search.specs.Answer.{AreEntered, HasNoRun, HasNoShorter}
+use Rattle.state_search.specs.Answer.{AreEntered, HasNoShorter}
 use Rattle.state_search.specs.own.Walk.{IsWalk}
 use Rattle.state_search.specs.own.Breadth.{AreFrom, IsFound}
 use Rattle.state_search.specs.own.Closing.{IsClosing, IsGoalLast}

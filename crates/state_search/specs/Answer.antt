@@ -1,9 +1,9 @@
 -- What a walk through the states of a task answers.
 use Rattle.std.specs.Prelude.{◌≡◌, ℕ, ◌≤◌, List, Bool, Some, length, slice_get}
 use Rattle.gt_core.specs.Task.{Task}
-use Rattle.gt_core.specs.Laws.{IsRunToGoal}
+use Rattle.gt_core.specs.Laws.{IsRunToGoal, HasNoRun}
 use Rattle.state_store.specs.Distinct.{AreDistinct}
-use Rattle.search_laws.specs.Reached.{IsReached}
+use Rattle.gt_core.specs.Reached.{IsReached}
 use Rattle.state_search.specs.declared.answer.End.{End}
 use Rattle.state_search.specs.declared.answer.End.TheVariants.{Plan, NoPlan, Unfinished}
 use Rattle.state_search.specs.declared.answer.Answer.{Answer}
@@ -14,10 +14,6 @@ pub record AreEntered (task : Task) (count : ℕ) : Type 0 where
   pub many : length states ≡ count
   pub reached : (k : ℕ) (s : List Bool) → slice_get states k ≡ Some s → IsReached task s
   pub distinct : AreDistinct states
-
--- no actions are a run to the goal, however many
-abbrev pub HasNoRun : Task → Type 0
-HasNoRun task = (ks : List ℕ) → IsRunToGoal task ks → ⊥
 
 -- each run to the goal has so many actions at least
 abbrev pub HasNoShorter : Task → ℕ → Type 0

@@ -11,6 +11,7 @@ ghost use Rattle.formula_defs.specs.Coded.{coded, literals_in};
 ghost use Rattle.step_chains.specs.own.Touching.{links_of};
 ghost use Rattle.step_chains.specs.BothWays.{ways, ways_in, all_places};
 ghost use Rattle.step_chains.specs.Chains.{AreChains, AreWithin, Extends, HasRoom, links_in, all_clauses};
+ghost use Rattle.gt_core.specs.Limits.{most_actions};
 
 use crate::chain::{Chain, chain_size, count};
 use crate::index::{LinkIndex, literals};
@@ -217,7 +218,7 @@ impl Chains {
 /// The actions of an order, one after the other.
 fn all_actions(alloc: Global, order: &Order) -> Result<Vec<u32>, Memory>
     ensures all { IfOk result (λ actions. actions.items ≡ order_of order.now) }
-    ensures few { length (order_of order.now) ≤ 16384 }
+    ensures few { length (order_of order.now) ≤ most_actions }
 {
     let mut actions = Vec::new(alloc);
     for group in order.groups() {

@@ -8,6 +8,7 @@ ghost use Rattle.gt_core.specs.Interference.{takes, reads};
 ghost use Rattle.gt_core.specs.Active.{EffectWithin};
 ghost use Rattle.gt_core.specs.Published.{Pairwise};
 ghost use Rattle.step_chains.specs.own.Index.{Marks, AreTouched, HasNoOther};
+ghost use Rattle.gt_core.specs.Limits.{most_facts};
 
 use crate::link::{Link, Links, mark};
 use bit_sets::row::BitRow;
@@ -132,7 +133,7 @@ impl LinkIndex {
 
     /// An index of no action, over so many facts.
     pub fn new(alloc: Global, facts: u32) -> Result<LinkIndex, Memory>
-        requires { facts ≤ 2048 }
+        requires { facts ≤ most_facts }
         ensures { IfOk result (λ index. length index ≡ 2 * facts) }
     {
         let lists = empty_lists(alloc, 2 * facts as usize)?;

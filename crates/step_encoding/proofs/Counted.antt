@@ -14,6 +14,7 @@ use Rattle.step_encoding.specs.Limits.{most_literals}
 use Rattle.step_encoding.specs.Numbers.{literals_of}
 use Rattle.step_encoding.specs.own.Kept.{AreKept}
 use Rattle.step_encoding.proofs.Whole.{layout_fits}
+use Rattle.horizon_rates.specs.Limits.{last_horizon}
 
 -- What a form keeps is what its layouts and formulas have.
 
@@ -39,7 +40,7 @@ module _ (places : Task → List (List ℕ) → List (List ℕ × ℕ)) where
   formula_at f n = literals_of (formula_of f.task f.known.clauses (at f) n)
 
   module _ (in_range : (form : OrderedTask) → IsOrderedTask form → IsInRange form.task form.known.clauses (places form.task form.components)) where
-    pub numbers_fit : (form now : OrderedTask) (n actions conditional chains facts : ℕ) → form ≡ now → IsOrderedTask form → n ≤ 255 → literals_of (formula_of now.task now.known.clauses (at now) n) ≤ most_literals → actions ≡ length form.task.actions → conditional ≡ conditional_in form.task.actions → chains ≡ chain_variables_in form.task (at form) → facts ≡ form.task.facts → n * (actions + conditional + chains) + (n + 1) * facts ≤ 2147483647
+    pub numbers_fit : (form now : OrderedTask) (n actions conditional chains facts : ℕ) → form ≡ now → IsOrderedTask form → n ≤ last_horizon → literals_of (formula_of now.task now.known.clauses (at now) n) ≤ most_literals → actions ≡ length form.task.actions → conditional ≡ conditional_in form.task.actions → chains ≡ chain_variables_in form.task (at form) → facts ≡ form.task.facts → n * (actions + conditional + chains) + (n + 1) * facts ≤ 2147483647
     numbers_fit form now n actions conditional chains facts e is le small a b c d =
         rw (a, b, c, d) (layout_fits form.task form.known.clauses (at form) is.lawful (in_range form is) n le (subst (λ (f : OrderedTask). formula_at f n ≤ most_literals) (sym e) small))
 

@@ -25,6 +25,8 @@ use Rattle.step_laws.specs.Form.{OrderedTask, IsOrderedTask}
 use Rattle.step_encoding.specs.Limits.{most_literals}
 use Rattle.step_laws.proofs.published.Ranges.{member_below}
 use Rattle.std.proofs.lemmas.List.Elements.{filter-append}
+use Rattle.horizon_rates.specs.Limits.{last_horizon}
+use Rattle.gt_core.specs.Limits.{most_facts, most_actions, most_conditional}
 
 -- The whole formula from its parts.
 
@@ -132,19 +134,19 @@ product_le a b s t h k =
     omega (arith, m, n, x, y)
 
 -- where a formula has few literals, its variables have codes in 32 bits
-pub layout_fits : (task : Task) (pairs : List (ℕ × ℕ)) (places : List (List ℕ × ℕ)) → is_task task ≡ true → IsInRange task pairs places → (n : ℕ) → n ≤ 255 → literals_in (formula_of task pairs places n).clauses ≤ most_literals → variables (layout_of task places n) ≤ 2147483647
+pub layout_fits : (task : Task) (pairs : List (ℕ × ℕ)) (places : List (List ℕ × ℕ)) → is_task task ≡ true → IsInRange task pairs places → (n : ℕ) → n ≤ last_horizon → literals_in (formula_of task pairs places n).clauses ≤ most_literals → variables (layout_of task places n) ≤ 2147483647
 layout_fits task pairs places is in_range n le small =
     let law = size_law task pairs places n in_range in
     let l = lawful task is in
     let x = chains_within_size task places in
-    let a = product_le n 255 (length task.actions) 16384 le l.actions in
-    let b = product_le n 255 (conditional_in task.actions) 65536 le l.conditional in
+    let a = product_le n last_horizon (length task.actions) most_actions le l.actions in
+    let b = product_le n last_horizon (conditional_in task.actions) most_conditional le l.conditional in
     let c = product_le n n (chain_variables_in task places) (literals_in (one_step task places)) (omega arith) x in
-    let d = product_le (n + 1) 256 task.facts 2048 (omega arith) l.facts in
+    let d = product_le (n + 1) 256 task.facts most_facts (omega arith) l.facts in
     sum_fits n (length task.actions) (conditional_in task.actions) (chain_variables_in task places) ((n + 1) * task.facts) (n * literals_in (one_step task places)) a b c (bound _ _ _ _ _ law small) d
   where
     bound : (size f g s k : ℕ) → size ≡ f + g + s + k → size ≤ most_literals → s ≤ most_literals
     bound size f g s k e h = omega arith
 
-    sum_fits : (n a c x f s : ℕ) → n * a ≤ 255 * 16384 → n * c ≤ 255 * 65536 → n * x ≤ s → s ≤ most_literals → f ≤ 256 * 2048 → n * (a + c + x) + f ≤ 2147483647
+    sum_fits : (n a c x f s : ℕ) → n * a ≤ last_horizon * most_actions → n * c ≤ last_horizon * most_conditional → n * x ≤ s → s ≤ most_literals → f ≤ 256 * most_facts → n * (a + c + x) + f ≤ 2147483647
     sum_fits n a c x f s h i j k l = omega arith

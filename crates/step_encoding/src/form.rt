@@ -6,6 +6,7 @@ ghost use Rattle.gt_core.specs.Task.{Task};
 ghost use Rattle.formula_defs.specs.Layout.{Layout as LayoutNumbers};
 ghost use Rattle.clause_base.specs.Formula.{Cnf, IsModel, IsUnsatisfiable};
 ghost use Rattle.step_encoding.specs.{Limits.most_literals, Numbers.HasNumbersOf, Numbers.literals_of};
+ghost use Rattle.horizon_rates.specs.Limits.{last_horizon};
 
 use crate::steps::Steps;
 use clause_base::formula::Formula;
@@ -28,7 +29,7 @@ impl From<Memory> for FormError {
     }
 }
 
-/// A way to say by formulas that a task has a plan of n steps, for each horizon n up to 255.
+/// A way to say by formulas that a task has a plan of n steps, for each horizon n up to the greatest one.
 pub trait StepForm {
     /// What the form stands on is as it must be.
     ghost is_form: { Self → Type 0 };
@@ -66,19 +67,19 @@ pub trait StepForm {
 
     /// The layout of a horizon of which the formula has at most `MOST_LITERALS` literals.
     fn layout(&self, n: u32) -> Layout
-        requires horizon { n ≤ 255 }
+        requires horizon { n ≤ last_horizon }
         requires size { literals_of (formula_of self.now n) ≤ most_literals }
         ensures { result ≡ layout_of self.now n };
 
     /// How many literals the formula of a horizon has. It takes no memory, and does not build the formula.
     fn size(&self, n: u32) -> u64
-        requires { n ≤ 255 }
+        requires { n ≤ last_horizon }
         ensures size { result ≡ literals_of (formula_of self.now n) }
         ensures lawful { is_form self.now };
 
     /// The formula of a horizon. `Literals` comes exactly where it has more than `MOST_LITERALS` of them, with their count.
     fn formula(&self, alloc: Global, n: u32) -> Result<Formula, FormError>
-        requires { n ≤ 255 }
+        requires { n ≤ last_horizon }
         ensures formula { IfOk result (λ formula. formula ≡ formula_of self.now n) }
         ensures small { IsOk result → literals_of (formula_of self.now n) ≤ most_literals }
         ensures literals { (count : ℕ) → result ≡ Err (FormError.Literals count) → (most_literals < count) × (count ≡ literals_of (formula_of self.now n)) }
@@ -86,7 +87,7 @@ pub trait StepForm {
 
     /// The steps that a satisfying assignment stands for.
     fn steps_of(&self, alloc: Global, n: u32, values: &[bool]) -> Result<Steps, Memory>
-        requires horizon { n ≤ 255 }
+        requires horizon { n ≤ last_horizon }
         requires size { literals_of (formula_of self.now n) ≤ most_literals }
         requires model { IsModel (formula_of self.now n) values.now }
         ensures { IfOk result (λ steps. steps ≡ stands_for self.now n values.now) };

@@ -9,6 +9,7 @@ ghost use Rattle.formula_defs.specs.Formula.{literal_over, initial_clauses};
 ghost use Rattle.formula_defs.specs.Coded.{coded};
 ghost use Rattle.clause_base.specs.Repeats.{repeated, variables_of};
 ghost use Rattle.step_encoding.specs.own.Parts.{step_part, time_part, StepsFit, TimesFit};
+ghost use Rattle.horizon_rates.specs.Limits.{last_horizon};
 
 use crate::ends::{add_goal, add_hopeless, add_initial};
 use clause_base::clause_list::ClauseList;
@@ -66,7 +67,7 @@ pub fn formula(
     step: &SharedList,
     known: &SharedList,
 ) -> Result<Formula, Memory>
-    requires horizon { layout.now.horizon ≤ 255 }
+    requires horizon { layout.now.horizon ≤ last_horizon }
     requires facts { layout.now.facts ≡ task.now.facts }
     requires steps_fit { StepsFit layout.now step.now (variables layout.now) }
     requires times_fit { TimesFit layout.now known.now (variables layout.now) }

@@ -12,6 +12,7 @@ ghost use Rattle.step_chains.specs.Chains.{AreChains};
 ghost use Rattle.step_laws.specs.{Form.IsOrderedTask, Form.AreSets, Form.steps_at, Stepping.IsStepping};
 ghost use Rattle.step_encoding.specs.{Limits.most_literals, Numbers.literals_of};
 ghost use Rattle.step_encoding.specs.Laws.{numbers_of, plans_of, refutes_of, sets_of, members_of};
+ghost use Rattle.horizon_rates.specs.Limits.{last_horizon};
 
 use crate::form::{FormError, StepForm};
 use crate::joining;
@@ -166,7 +167,7 @@ impl<'a, P: Placing> Placed<'a, P> {
 
     /// The formula of a horizon in its layout.
     fn built(&self, alloc: Global, layout: &Layout) -> Result<Formula, Memory>
-        requires horizon { layout.now.horizon ≤ 255 }
+        requires horizon { layout.now.horizon ≤ last_horizon }
         requires layout { layout.now ≡ layout_of self.now.task (P.places self.now.task self.now.components) layout.now.horizon }
         requires small { literals_of (formula_of self.now.task self.now.known.clauses (P.places self.now.task self.now.components) layout.now.horizon) ≤ most_literals }
         ensures { IfOk result (λ formula. formula ≡ formula_of self.now.task self.now.known.clauses (P.places self.now.task self.now.components) layout.now.horizon) }

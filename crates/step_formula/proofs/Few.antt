@@ -7,10 +7,11 @@ use Rattle.gt_core.proofs.published.Basics.{and_split}
 use Rattle.gt_core.proofs.published.Within.{lawful}
 use Rattle.formula_defs.proofs.published.Sorted.{effects_few, effects_of_action}
 use Rattle.step_formula.specs.own.Sizes.{effects_in}
+use Rattle.gt_core.specs.Limits.{most_facts}
 
 -- How many effects a task has.
 
-actions_few : (facts : ℕ) (xs : List Action) → facts ≤ 2048 → list_all (is_action facts) xs ≡ true → effects_in xs ≤ 4096 * length xs + conditional_in xs
+actions_few : (facts : ℕ) (xs : List Action) → facts ≤ most_facts → list_all (is_action facts) xs ≡ true → effects_in xs ≤ 4096 * length xs + conditional_in xs
 actions_few facts [] le h = omega arith
 actions_few facts (x ∷ xs) le h =
     let p = and_split (is_action facts x) _ h in

@@ -13,6 +13,7 @@ use Rattle.formula_defs.proofs.published.Sorted.{effects_of_action, effects_few,
 use Rattle.step_formula.proofs.Few.{task_few}
 use Rattle.step_formula.proofs.EffectsSize.{prefix_sorted}
 use Rattle.step_formula.proofs.ResultSize.{IsSplit, counts_before}
+use Rattle.gt_core.specs.Limits.{most_facts, most_conditional}
 
 -- Walks along lists of actions and of effects.
 
@@ -38,7 +39,7 @@ drop_few f acts i =
     omega (arith, a, b)
 
 module _ (task : Task) (t : is_task task ≡ true) (items : List Action) (i : ℕ) (d x : Action) (e : items ≡ task.actions) (lt : i < length items) (is : x ≡ get_or items i d) where
-  facts_few : task.facts ≤ 2048
+  facts_few : task.facts ≤ most_facts
   facts_few = (lawful task t).facts
 
   pub preconditions_next : (pre : List ℕ) (size : ℕ) → pre ≡ x.precondition → preconditions_size task.actions ≡ size + preconditions_size (drop i task.actions) → size ≤ 8192 * i
@@ -53,7 +54,7 @@ module _ (task : Task) (t : is_task task ≡ true) (items : List Action) (i : �
   own_few : length x.effects ≤ 4096 + count_by is_conditional x.effects
   own_few = let f = effects_few task.facts x.effects (effects_of_action task.facts x (action_at_place task items i d x t e lt is)) in let k = facts_few in omega (arith, f, k)
 
-  pub own_conditional : count_by is_conditional x.effects ≤ 65536
+  pub own_conditional : count_by is_conditional x.effects ≤ most_conditional
   own_conditional =
       let c = conditional_left task.actions items i d x e lt is in
       let f = drop_few (λ (a : Action). count_by is_conditional a.effects) task.actions i in
@@ -112,7 +113,7 @@ effect_next es items i d e size meaning result q lt is m r h =
     let s = ap (sum_by (effect_size es)) (at_index es items i d e q lt is) ∙ sum_by-cons (effect_size es) e (drop (i + 1) es) in
     omega (arith, s, m, r, h)
 
-pub condition_few : (facts : ℕ) (es : List Effect) (i : ℕ) (d e : Effect) → facts ≤ 2048 → are_effects facts None es ≡ true → i < length es → e ≡ get_or es i d → length e.condition ≤ 4096
+pub condition_few : (facts : ℕ) (es : List Effect) (i : ℕ) (d e : Effect) → facts ≤ most_facts → are_effects facts None es ≡ true → i < length es → e ≡ get_or es i d → length e.condition ≤ 4096
 condition_few facts es i d e le s lt is =
     let f = set_few facts (get_or es i d).condition (condition_at facts None es i d s lt) in
     let n = ap (λ (x : Effect). length x.condition) is in

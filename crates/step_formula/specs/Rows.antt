@@ -7,6 +7,7 @@ use Rattle.formula_defs.specs.Layout.{Layout, action_at, fact_at}
 use Rattle.formula_defs.specs.Clause.{Literal, code}
 use Rattle.formula_defs.specs.Variables.{Row, rows, rows_from, variable_at}
 use Rattle.formula_defs.specs.Formula.{effects_with, meaning_clauses, result_clause, effect_clauses}
+use Rattle.gt_core.specs.Limits.{most_conditional}
 
 -- an effect of an action, with the number that it has where it is conditional
 abbrev pub row_of : ℕ → ℕ → Effect → Row
@@ -39,7 +40,7 @@ pub record ArePlaced (z : Layout) (a first : ℕ) (es : List Effect) : Type 0 wh
   pub horizon : 0 < z.horizon
   pub action : a < z.actions
   pub numbers : first + count_by is_conditional es ≤ z.conditional
-  pub few : z.conditional ≤ 65536
+  pub few : z.conditional ≤ most_conditional
   pub within : AllByRecursion (EffectWithin z.facts) es
 
 -- the codes of the variables in the first step of an action's effects with a literal

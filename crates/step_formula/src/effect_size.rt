@@ -2,6 +2,7 @@
 ghost use Rattle.std.specs.Prelude.{◌≡◌, ◌+◌, ◌*◌, ◌≤◌, true, length, count_by, None};
 ghost use Rattle.gt_core.specs.Lawful.{are_effects, is_conditional};
 ghost use Rattle.step_formula.specs.own.Sizes.{has_both, meaning_size, effects_size};
+ghost use Rattle.gt_core.specs.Limits.{most_facts, most_conditional};
 
 use crate::counted_adds::Adds;
 use gt_core::eff::Eff;
@@ -37,9 +38,9 @@ fn meaning_size(effect: &Eff) -> u64
 
 /// How many literals the clauses of an action's effects have, which are sorted and over so many facts.
 pub(crate) fn effects_size(facts: u32, effects: &[Eff]) -> u64
-    requires facts { facts ≤ 2048 }
+    requires facts { facts ≤ most_facts }
     requires sorted { are_effects facts None effects.now ≡ true }
-    requires few { count_by is_conditional effects.now ≤ 65536 }
+    requires few { count_by is_conditional effects.now ≤ most_conditional }
     ensures size { result ≡ effects_size effects.now }
     ensures few { result ≤ 131072 * length effects.now }
 {

@@ -4,6 +4,7 @@ ghost use Rattle.std.specs.Prelude.{◌≡◌, ◌≤◌, ◌<◌, true, count_b
 ghost use Rattle.gt_core.specs.Lawful.{is_conditional};
 ghost use Rattle.formula_defs.specs.Variables.{variable_at};
 ghost use Rattle.step_formula.specs.Rows.{row_of, number_after};
+ghost use Rattle.gt_core.specs.Limits.{most_conditional};
 
 use crate::literals::action_variable;
 use formula_defs::layout::Layout;
@@ -18,7 +19,7 @@ pub(crate) struct Place {
 
 /// The number of the next conditional effect after an effect.
 pub(crate) fn number_after(number: u32, effect: &Eff) -> u32
-    requires { number ≤ 65536 }
+    requires { number ≤ most_conditional }
     ensures { result ≡ number_after number effect.now }
 {
     if effect.is_conditional() {

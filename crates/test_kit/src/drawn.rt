@@ -1,6 +1,7 @@
 //! Small tasks drawn from numbers.
 
 ghost use Rattle.std.specs.Prelude.{◌≤◌};
+ghost use Rattle.gt_core.specs.Limits.{most_facts};
 
 use crate::dice::Dice;
 use gt_core::act::{Act, Acts};
@@ -11,7 +12,7 @@ use std::alloc::{AllocError, Global};
 
 /// Of each fact one of its literals, or none: the first with one side of `sides`, the second with another.
 fn literals(alloc: Global, dice: &mut Dice, facts: u32, sides: u32) -> Result<Lits, AllocError>
-    requires facts { facts ≤ 2048 }
+    requires facts { facts ≤ most_facts }
     requires sides { 2 ≤ sides }
 {
     let mut lits = Vec::new(alloc);
@@ -26,7 +27,7 @@ fn literals(alloc: Global, dice: &mut Dice, facts: u32, sides: u32) -> Result<Li
 
 /// For each literal no effect, one without condition, one with, or both.
 fn effects(alloc: Global, dice: &mut Dice, facts: u32) -> Result<Effs, AllocError>
-    requires { facts ≤ 2048 }
+    requires { facts ≤ most_facts }
 {
     let mut effects = Vec::new(alloc);
     for lit in 0..2 * facts {

@@ -16,13 +16,14 @@ use crate::rooms::add_pair;
 use containers::memory::Memory;
 use gt_core::act::{Act, Acts};
 use gt_core::eff::Eff;
+use gt_core::limits::{MOST_ACTIONS, MOST_FACTS};
 use gt_core::lits::{Bits, Lits};
 use gt_core::pairs::Pairs;
 use gt_core::task::Task;
 use std::alloc::{AllocError, Global};
 
 /// How many facts a task has.
-const FACTS: u32 = 2048;
+const FACTS: u32 = MOST_FACTS as u32;
 
 /// How many effects of the one action add its fact, and as many delete it.
 const HALF_OF_EFFECTS: u32 = 32_131;
@@ -33,7 +34,7 @@ fn action_count(word: &str) -> u32 {
         "hand" => 15_876,
         "takers" => 1600,
         "effects" => 1,
-        _ => 16_384,
+        _ => MOST_ACTIONS as u32,
     }
 }
 

@@ -11,6 +11,7 @@ use Rattle.implied_literals.specs.Rows.{row_at, clause_in, AreRows}
 use Rattle.implied_literals.specs.Tested.{IsSetOf, AreRowsOf, with_more}
 use Rattle.two_invariants.specs.own.First.{is_first}
 use Rattle.implied_literals.proofs.published.Steps.{past_rows}
+use Rattle.gt_core.specs.Limits.{most_facts}
 
 -- What the loops and branches of the code need.
 
@@ -68,7 +69,7 @@ first_everywhere facts s rows long each l m = elim (cases_lt l (2 * facts)) [
   | inr le ↦ past_rows rows l m (omega arith) ∙ sym (first_past facts s l m le)
 ]
 
-pub first_are_rows : (facts : ℕ) (s : ℕ → Bool) (rows : List (List ℕ)) → facts ≤ 2048 → length rows ≡ 2 * facts → ((k m : ℕ) → k < 2 * facts → clause_in rows k m ≡ is_first facts s k m) → AreRows facts rows
+pub first_are_rows : (facts : ℕ) (s : ℕ → Bool) (rows : List (List ℕ)) → facts ≤ most_facts → length rows ≡ 2 * facts → ((k m : ℕ) → k < 2 * facts → clause_in rows k m ≡ is_first facts s k m) → AreRows facts rows
 first_are_rows facts s rows few long each = record {
   few = few;
   long = long;

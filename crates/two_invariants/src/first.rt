@@ -5,6 +5,7 @@ ghost use Rattle.bit_sets.specs.Rows.{row_has};
 ghost use Rattle.gt_core.specs.Literal.{opposite, holds, state_of};
 ghost use Rattle.implied_literals.specs.Rows.{clause_in, AreRows};
 ghost use Rattle.two_invariants.specs.own.First.{is_first};
+ghost use Rattle.gt_core.specs.Limits.{most_facts};
 
 use bit_sets::row::BitRow;
 use gt_core::lits::opposite;
@@ -22,7 +23,7 @@ fn holds(state: &[bool], l: u32) -> bool
 
 /// All literals of a state.
 fn all_literals(alloc: Global, facts: u32) -> Result<BitRow, AllocError>
-    requires { facts ≤ 2048 }
+    requires { facts ≤ most_facts }
     ensures { IfOk result (λ row. (m : ℕ) → row_has row m ≡ nat_lt m (2 * facts)) }
 {
     let mut row = BitRow::new(alloc);
@@ -34,7 +35,7 @@ fn all_literals(alloc: Global, facts: u32) -> Result<BitRow, AllocError>
 
 /// The literals that hold in a state.
 fn true_literals(alloc: Global, state: &[bool]) -> Result<BitRow, AllocError>
-    requires { length state.now ≤ 2048 }
+    requires { length state.now ≤ most_facts }
     ensures { IfOk result (λ row. (m : ℕ) → row_has row m ≡ (nat_lt m (2 * length state.now) && holds (state_of state.now) m)) }
 {
     let mut row = BitRow::new(alloc);
@@ -54,7 +55,7 @@ fn first_row(
     trues: &BitRow,
     l: u32,
 ) -> Result<BitRow, AllocError>
-    requires few { length state.now ≤ 2048 }
+    requires few { length state.now ≤ most_facts }
     requires l { l < 2 * length state.now }
     requires all { (m : ℕ) → row_has all.now m ≡ nat_lt m (2 * length state.now) }
     requires trues { (m : ℕ) → row_has trues.now m ≡ (nat_lt m (2 * length state.now) && holds (state_of state.now) m) }
@@ -67,7 +68,7 @@ fn first_row(
 
 /// The clauses of one literal, or of two of different facts, that are true in a state.
 pub fn first_clauses(alloc: Global, state: &[bool]) -> Result<Vec<BitRow>, AllocError>
-    requires { length state.now ≤ 2048 }
+    requires { length state.now ≤ most_facts }
     ensures rows { IfOk result (λ rows. AreRows (length state.now) rows.items) }
     ensures clauses { IfOk result (λ rows. (l m : ℕ) → clause_in rows.items l m ≡ is_first (length state.now) (state_of state.now) l m) }
 {

@@ -5,6 +5,7 @@ ghost use Rattle.bit_sets.specs.Rows.{row_has};
 ghost use Rattle.gt_core.specs.{Literal.opposite, Interference.has_clause, Clauses.IsKnownClauses};
 ghost use Rattle.implied_literals.specs.Rows.{clause_in, AreRows};
 ghost use Rattle.two_invariants.specs.own.Listed.{is_from};
+ghost use Rattle.gt_core.specs.Limits.{most_facts};
 
 use bit_sets::row::BitRow;
 use containers::memory::Memory;
@@ -14,7 +15,7 @@ use std::alloc::Global;
 /// Adds the clauses of a literal with itself and with greater ones.
 fn add_row(pairs: &mut Pairs, facts: u32, row: &BitRow, l: u32) -> Result<(), Memory>
     requires facts { pairs.old.facts ≡ facts }
-    requires few { facts ≤ 2048 }
+    requires few { facts ≤ most_facts }
     requires lawful { IsKnownClauses pairs.old }
     requires l { l < 2 * facts }
     requires within { (m : ℕ) → row_has row.now m ≡ true → m < 2 * facts }

@@ -17,6 +17,7 @@ use Rattle.action_order.specs.Order.{IsOrder, name_in}
 use Rattle.action_order.proofs.EdgesLaw.{leads_is}
 use Rattle.action_order.proofs.published.Lists.{in_at}
 use Rattle.action_order.proofs.OrderLaw.{unequal_places, few_unequal, few_components}
+use Rattle.gt_core.specs.Limits.{most_actions}
 
 -- The listed components of the graph of the targets are the published order.
 
@@ -63,7 +64,7 @@ module _ (task : Task) (clauses : List (ℕ × ℕ)) (components : List (List �
   pub components_few : length components ≤ length task.actions
   components_few = let a = few_components (has_edge task clauses) (action_numbers task) [] components p in let b = order_few in omega arith
 
-  pub is_order : (order places names : List ℕ) → length task.actions ≤ 16384 → order ≡ order_of components → length places ≡ length task.actions → ((q : ℕ) → q < length order → item places (item order q) ≡ q) → length names ≡ length task.actions → ((a : ℕ) → a < length task.actions → item names a ≡ name_in components a) → IsOrder components order places names
+  pub is_order : (order places names : List ℕ) → length task.actions ≤ most_actions → order ≡ order_of components → length places ≡ length task.actions → ((q : ℕ) → q < length order → item places (item order q) ≡ q) → length names ≡ length task.actions → ((a : ℕ) → a < length task.actions → item names a ≡ name_in components a) → IsOrder components order places names
   is_order order places names few flat places_long placed names_long named = record {
     flat = flat;
     placed = λ q lt. (let b = action_below (item order q) (subst (λ (xs : List ℕ). is_in xs (item order q) ≡ true) flat (in_at order q lt)) in omega arith, placed q lt);

@@ -5,6 +5,7 @@ use Rattle.formula_defs.specs.Layout.{Layout}
 use Rattle.bit_sets.specs.Rows.{row_has, room}
 use Rattle.clause_base.specs.Clause.{IsRising}
 use Rattle.goal_choice.specs.Means.{Supporter, Means}
+use Rattle.gt_core.specs.Limits.{most_facts}
 
 -- literals of so many facts, rising
 pub record Literals : Type 0 where
@@ -36,7 +37,7 @@ pub record IsWithin (z : Layout) (s : Supporter) : Type 0 where
 
 -- the goal is sorted and of the facts, and so are the needs of each literal's supporters
 pub record AreMeans (m : Means) : Type 0 where
-  pub few : m.layout.facts ≤ 2048
+  pub few : m.layout.facts ≤ most_facts
   pub rising : IsRising m.goal
   pub goal : AllByRecursion (λ l. l / 2 < m.layout.facts) m.goal
   pub long : length m.supporters ≡ 2 * m.layout.facts

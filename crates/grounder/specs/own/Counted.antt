@@ -2,7 +2,7 @@
 use Rattle.std.specs.Prelude.{◌≡◌, ◌≤◌, List}
 use Rattle.gt_core.specs.Lawful.{conditional_in}
 use Rattle.gt_core.specs.Task.{Action}
-use Rattle.grounding_defs.specs.Limits.{most_conditional}
+use Rattle.gt_core.specs.Limits.{most_conditional}
 use Rattle.grounding_defs.specs.Tuples.{saturated}
 use Rattle.grounder.specs.declared.conditional.Counted.{Counted}
 

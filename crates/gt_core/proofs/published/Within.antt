@@ -6,6 +6,7 @@ use Rattle.gt_core.specs.Task.{Effect, Task, action, precondition}
 use Rattle.gt_core.specs.Lawful.{are_rising, is_literal_set, are_effects, is_action, is_task, follows, conditional_in}
 use Rattle.gt_core.specs.Active.{EffectWithin}
 use Rattle.gt_core.proofs.published.Basics.{Among, and_split, all_at, each_at, each_from}
+use Rattle.gt_core.specs.Limits.{most_facts, most_actions, most_conditional}
 
 -- The literals of a task are in range.
 
@@ -33,24 +34,24 @@ effects_within facts last (d ∷ es) e =
 
 -- what a task keeps, by name
 pub record Lawful (task : Task) : Type 0 where
-  pub facts : task.facts ≤ 2048
-  pub actions : length task.actions ≤ 16384
-  pub conditional : conditional_in task.actions ≤ 65536
+  pub facts : task.facts ≤ most_facts
+  pub actions : length task.actions ≤ most_actions
+  pub conditional : conditional_in task.actions ≤ most_conditional
   pub initial : length task.initial ≡ task.facts
   pub goal : is_literal_set task.facts task.goal ≡ true
   pub each : list_all (is_action task.facts) task.actions ≡ true
 
 pub lawful : (task : Task) → is_task task ≡ true → Lawful task
 lawful task e =
-    let a = and_split (nat_le task.facts 2048) _ e in
-    let b = and_split (nat_le (length task.actions) 16384) _ a.1 in
-    let c = and_split (nat_le (conditional_in task.actions) 65536) _ b.1 in
+    let a = and_split (nat_le task.facts most_facts) _ e in
+    let b = and_split (nat_le (length task.actions) most_actions) _ a.1 in
+    let c = and_split (nat_le (conditional_in task.actions) most_conditional) _ b.1 in
     let d = and_split (length task.initial == task.facts) _ c.1 in
     let g = and_split (is_literal_set task.facts task.goal) _ d.1 in
     record {
-      facts = let t : nat_le task.facts 2048 ≡ true = a.0 in grind (arith, nat_tests);
-      actions = let t : nat_le (length task.actions) 16384 ≡ true = b.0 in grind (arith, nat_tests);
-      conditional = let t : nat_le (conditional_in task.actions) 65536 ≡ true = c.0 in grind (arith, nat_tests);
+      facts = let t : nat_le task.facts most_facts ≡ true = a.0 in grind (arith, nat_tests);
+      actions = let t : nat_le (length task.actions) most_actions ≡ true = b.0 in grind (arith, nat_tests);
+      conditional = let t : nat_le (conditional_in task.actions) most_conditional ≡ true = c.0 in grind (arith, nat_tests);
       initial = let t : (length task.initial == task.facts) ≡ true = d.0 in grind (arith, nat_tests);
       goal = g.0;
       each = g.1;

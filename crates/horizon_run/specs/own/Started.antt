@@ -21,7 +21,7 @@ still_begun r = record r { granted = one_if r.granted }
 abbrev pub may_go : RunView → Bool
 may_go r = is_none r.granted || goes r
 
--- the law that a number and what is left of its being 0 are 0 together
+-- the law that a number is 0 exactly where `one_if` of it is
 pub none-of : (n : ℕ) → is_none (one_if n) ≡ is_none n
 none-of zero = refl
 none-of (suc n) = refl

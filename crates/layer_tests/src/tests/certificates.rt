@@ -1,7 +1,9 @@
 // Certificates, and texts that are none.
 ghost use Rattle.std.specs.Prelude.{◌≤◌};
+ghost use Rattle.horizon_rates.specs.Limits.{last_horizon};
 
 use super::holding::{holds, is, is_same};
+use containers::limits::CERTIFICATE_BYTES;
 use proof_log::laws::laws;
 use proof_log::{Proof, ProofFault, proof_length, read_proof, write_proof, written};
 use std::alloc::Global;
@@ -44,7 +46,7 @@ const ROWS: [Row; 27] = [
 
 /// Whether a certificate is written as this text.
 fn is_written(alloc: Global, proof: &Proof, text: &str) -> bool
-    requires { proof.now.horizon ≤ 255 }
+    requires { proof.now.horizon ≤ last_horizon }
 {
     written(&proof.log);
     let long = proof_length(proof.horizon, &proof.log);
@@ -57,7 +59,7 @@ fn is_written(alloc: Global, proof: &Proof, text: &str) -> bool
 /// Whether bytes are read, and written back byte by byte, or refused at their place.
 fn is_so(alloc: Global, row: &Row) -> bool {
     let (text, place) = *row;
-    if text.len() > 16_777_216 {
+    if text.len() as u64 > CERTIFICATE_BYTES {
         return false;
     }
     match read_proof(alloc, text.as_bytes()) {

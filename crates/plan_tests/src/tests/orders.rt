@@ -1,6 +1,7 @@
 // The published order of tasks written by hand.
 ghost use Rattle.std.specs.Prelude.{◌<◌, ◌≤◌, length};
 ghost use Rattle.gt_core.specs.Published.{order_of};
+ghost use Rattle.gt_core.specs.Limits.{most_facts};
 
 use super::runs::holds;
 use action_order::numbers::ActNumbers;
@@ -52,7 +53,7 @@ fn add(rt: &impl Abort, pairs: &mut Pairs, l: u32, m: u32) {
 
 /// Clauses of two literals over so many facts.
 fn pairs_of(rt: &impl Abort, alloc: Global, facts: u32, clauses: &[(u32, u32)]) -> Pairs
-    requires { facts ≤ 2048 }
+    requires { facts ≤ most_facts }
 {
     let mut pairs = Pairs::empty(alloc, facts).ok().expect(rt, "memory");
     for (l, m) in clauses {

@@ -100,7 +100,7 @@ impl TurnNotes {
         }
     }
 
-    /// For a run of which no horizon waits: there is none past 255.
+    /// For a run of which no horizon waits: there is none past the greatest one.
     pub(crate) fn new() -> TurnNotes {
         TurnNotes::of_pair(256, 257)
     }

@@ -18,7 +18,7 @@ use Rattle.plan_endings.specs.Ending.{batch_of}
 use Rattle.plan_endings.specs.declared.ending.Ending.{Ending}
 use Rattle.plan_endings.specs.declared.ending.Ending.TheVariants.{TooLong}
 use Rattle.plan_endings.specs.declared.ending.File.TheVariants.{Domain, Problem}
-use Rattle.input_files.specs.Limits.{most_bytes}
+use Rattle.containers.specs.Limits.{most_bytes}
 use Rattle.commands.specs.Tasks.{AreTask, IsReady, IsReading, OnceGrounded}
 use Rattle.commands.specs.Raced.{IsKnown, ComesTo, IsTooLarge}
 use Rattle.commands.specs.Answers.{AnswersPlan}

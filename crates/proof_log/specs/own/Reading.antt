@@ -4,6 +4,7 @@ use Rattle.std.specs.Char.{digit_value}
 use Rattle.clause_base.specs.declared.log.Entry.{Entry}
 use Rattle.clause_base.specs.declared.log.Entry.TheVariants.{Learn, Drop}
 use Rattle.proof_log.specs.Text.{AreSmall, IsWritten}
+use Rattle.horizon_rates.specs.Limits.{last_horizon}
 
 -- the byte is a decimal digit
 abbrev pub IsDigit : ℕ → Type 0
@@ -92,4 +93,4 @@ HasNoEntry bytes = (e : Entry) (rest : List ℕ) → IsWritten e → bytes ≡ e
 
 -- nor with the line of a horizon
 abbrev pub HasNoHorizon : List ℕ → Type 0
-HasNoHorizon bytes = (horizon : ℕ) (rest : List ℕ) → horizon ≤ 255 → bytes ≡ codes "horizon" ++ one_then horizon rest → ⊥
+HasNoHorizon bytes = (horizon : ℕ) (rest : List ℕ) → horizon ≤ last_horizon → bytes ≡ codes "horizon" ++ one_then horizon rest → ⊥

@@ -91,15 +91,15 @@ kept_other cl kept node l ne m =
     sym (get_other kept true false (node / 2) n) ∙ m
 
 -- with the two nodes of the new clause on the chains of its watched literals
-pub listed_add : (cl : List (List ℕ)) (k : List ℕ) (froms froms' heads heads' : List ℕ) (nodes nodes' : List Node) (spare : ℕ)
-    (kept : List Bool) (p q a b : ℕ) (r : IsAtRest cl froms heads nodes spare kept)
-    → length kept ≡ length cl → length cl < length froms' → p < length k → q < length k → (a ≡ b → ⊥) → 2 ≤ length k
+pub listed_add : (cl : List (List ℕ)) (k : List ℕ) (resume_at resume_at' heads heads' : List ℕ) (nodes nodes' : List Node) (spare : ℕ)
+    (kept : List Bool) (p q a b : ℕ) (r : IsAtRest cl resume_at heads nodes spare kept)
+    → length kept ≡ length cl → length cl < length resume_at' → p < length k → q < length k → (a ≡ b → ⊥) → 2 ≤ length k
     → a ≡ get_or k p 0 → b ≡ get_or k q 0
     → IsLinked heads' nodes' (placed (2 * length cl + 1) (Some b) (placed (2 * length cl) (Some a) r.on)) → length heads' ≡ length heads
     → 2 * (length cl + 1) ≤ length nodes' → blocking_of nodes' (2 * length cl) ≡ b → blocking_of nodes' (2 * length cl + 1) ≡ a
     → ((x : ℕ) → (x ≡ 2 * length cl → ⊥) → (x ≡ 2 * length cl + 1 → ⊥) → blocking_of nodes' x ≡ blocking_of nodes x)
-    → IsAtRest (cl ++ k ∷ []) froms' heads' nodes' spare (kept ++ true ∷ [])
-listed_add cl k froms froms' heads heads' nodes nodes' spare kept p q a b r lk lw fin sin ne two ae be link lh ln first second others = record {
+    → IsAtRest (cl ++ k ∷ []) resume_at' heads' nodes' spare (kept ++ true ∷ [])
+listed_add cl k resume_at resume_at' heads heads' nodes nodes' spare kept p q a b r lk lw fin sin ne two ae be link lh ln first second others = record {
   on = placed (2 * length cl + 1) (Some b) (placed (2 * length cl) (Some a) r.on);
   linked = link;
   long = omega (arith, lw, length_push cl k);

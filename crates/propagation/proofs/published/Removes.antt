@@ -2,7 +2,7 @@
 use Rattle.std.proofs.Common.{arith, ◌≡◌, ℕ, zero, suc, List, [], ◌∷◌, ◌*◌, length, take, set, get_or, Bool, true, false, ◌&&◌, refl, sym, ap, ◌∙◌, length-set}
 use Rattle.clause_base.specs.Clause.{has_literal}
 use Rattle.propagation.specs.declared.tables.Tables.{Tables}
-use Rattle.propagation.specs.declared.visit.Lists.{Lists}
+use Rattle.propagation.specs.declared.visit.WatchState.{WatchState}
 use Rattle.propagation.specs.Pending.{is_pending_on}
 use Rattle.cdcl_defs.specs.Pending.{is_pending}
 use Rattle.cdcl_defs.specs.State.{clause_at}
@@ -51,7 +51,7 @@ tables_removed t t' codes n i store slots kept steps = record {
   steps = rw (store, slots, steps) i.steps;
 }
 
-pub removed_sound : (v : ℕ) (t t' : Tables) (l : Lists) (trail : List ℕ) (quiet : List Bool) (n : ℕ) → AreSound v t l trail quiet → t'.store ≡ t.store
+pub removed_sound : (v : ℕ) (t t' : Tables) (l : WatchState) (trail : List ℕ) (quiet : List Bool) (n : ℕ) → AreSound v t l trail quiet → t'.store ≡ t.store
     → t'.slots.items ≡ t.slots.items → t'.kept.items ≡ set t.kept.items n false → t'.steps ≡ t.steps → AreSound v t' l trail quiet
 removed_sound v t t' l trail quiet n i store slots kept steps = record {
   small = i.small;

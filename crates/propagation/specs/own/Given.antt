@@ -12,7 +12,7 @@ use Rattle.propagation.specs.own.Visit.{slot_clauses, AreSlotsBelow, IsAtRest}
 pub record AreGiven (codes : ℕ) (clauses : List (List ℕ)) (number : ℕ) (g : Given) : Type 0 where
   pub slotted : AreSlotsBelow number g.slots.items
   pub few : length g.slots.items ≤ number
-  pub rest : IsAtRest (slot_clauses clauses g.slots.items) g.lists.froms.items g.lists.chains.heads.items g.lists.chains.nodes.items codes (replicate (length g.slots.items) true)
+  pub rest : IsAtRest (slot_clauses clauses g.slots.items) g.lists.resume_at.items g.lists.chains.heads.items g.lists.chains.nodes.items codes (replicate (length g.slots.items) true)
   pub longs : (c : ℕ) → c < number → 2 < length (clause_at clauses c) → HasSlot g.slots.items c
   pub shorts : (c : ℕ) → c < number → length (clause_at clauses c) < 2 → words_have g.lists.pending.numbers c ≡ true
   pub only : (c : ℕ) → words_have g.lists.pending.numbers c ≡ true → (c < number) × (length (clause_at clauses c) < 2)

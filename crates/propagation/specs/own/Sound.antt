@@ -3,7 +3,7 @@ use Rattle.std.specs.Prelude.{◌≡◌, ℕ, ◌+◌, ◌*◌, ◌/◌, ◌<◌
 use Rattle.std.specs.List.{list_any}
 use Rattle.clause_base.specs.Clause.{has_literal}
 use Rattle.propagation.specs.declared.tables.Tables.{Tables}
-use Rattle.propagation.specs.declared.visit.Lists.{Lists}
+use Rattle.propagation.specs.declared.visit.WatchState.{WatchState}
 use Rattle.cdcl_tables.specs.declared.chains.Node.{Node}
 use Rattle.propagation.specs.own.Asks.{IsConsistent, HasAsks}
 use Rattle.propagation.specs.Front.{IsComplete}
@@ -22,12 +22,12 @@ AreFree clauses nodes kept trail =
 -- each prefix of the trail (`free`), so that nothing is done for them where it is taken back; each clause that is kept and pending
 -- is in the set (`complete`), so that the least of them is the least member that is kept and pending; where the flag of a length
 -- is set, nothing is pending there (`quiets`), so that no clause is looked at where the trail is taken back to it.
-pub record AreSound (variables : ℕ) (t : Tables) (l : Lists) (trail : List ℕ) (quiet : List Bool) : Type 0 where
+pub record AreSound (variables : ℕ) (t : Tables) (l : WatchState) (trail : List ℕ) (quiet : List Bool) : Type 0 where
   pub small : variables ≤ 2147483647
   pub tables : AreTables t (2 * variables)
   pub few : length t.store ≤ 2147483647
   pub slots_few : length t.slots.items ≤ length t.store
-  pub rest : IsAtRest (clauses_in t) l.froms.items l.chains.heads.items l.chains.nodes.items (2 * variables) (flags_in t)
+  pub rest : IsAtRest (clauses_in t) l.resume_at.items l.chains.heads.items l.chains.nodes.items (2 * variables) (flags_in t)
   pub free : (n : ℕ) → n ≤ length trail → AreFree (clauses_in t) l.chains.nodes.items (flags_in t) (take n trail)
   pub consistent : IsConsistent trail
   pub asks : HasAsks t.store trail l.pending

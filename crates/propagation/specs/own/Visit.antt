@@ -8,7 +8,7 @@ use Rattle.cdcl_tables.specs.declared.chains.Place.{Place}
 use Rattle.cdcl_tables.specs.Linked.{IsLinked, blocking_of, has}
 use Rattle.cdcl_tables.specs.Walk.{IsWalk}
 use Rattle.bit_sets.specs.Layered.{words_have}
-use Rattle.propagation.specs.declared.visit.Lists.{Lists}
+use Rattle.propagation.specs.declared.visit.WatchState.{WatchState}
 use Rattle.propagation.specs.declared.tables.Tables.{Tables}
 use Rattle.propagation.specs.Pending.{is_free, has_two_free}
 use Rattle.cdcl_defs.specs.Pending.{is_pending}
@@ -52,10 +52,10 @@ IsNodeKept kept node = slice_index_or kept (node / 2) false ≡ true
 
 -- each node of a kept clause is on the chain of its watched literal, and the two watched literals of a clause are two of its own: so a
 -- clause is met wherever one of these becomes false
-pub record IsAtRest (clauses : List (List ℕ)) (froms : List ℕ) (heads : List ℕ) (nodes : List Node) (limit : ℕ) (kept : List Bool) : Type 0 where
+pub record IsAtRest (clauses : List (List ℕ)) (resume_at : List ℕ) (heads : List ℕ) (nodes : List Node) (limit : ℕ) (kept : List Bool) : Type 0 where
   pub on : ℕ → Option ℕ
   pub linked : IsLinked heads nodes on
-  pub long : length clauses ≤ length froms
+  pub long : length clauses ≤ length resume_at
   pub codes : length heads ≡ limit
   pub many : 2 * length clauses ≤ length nodes
   pub real : (node l : ℕ) → on node ≡ Some l → IsReal clauses node
@@ -84,26 +84,26 @@ AllSettled clauses nodes on set code kept =
 
 -- A walk along the chain of a literal that is false: each node of a kept clause is on the chain of its watched literal at any time, and
 -- the clauses behind the place of the walk that are kept and stay there are settled. So all are once the walk is at the end.
-pub record IsVisiting (clauses : List (List ℕ)) (froms heads : List ℕ) (nodes : List Node) (codes : ℕ) (kept : List Bool) (on set : ℕ → Bool) (code : ℕ)
+pub record IsVisiting (clauses : List (List ℕ)) (resume_at heads : List ℕ) (nodes : List Node) (codes : ℕ) (kept : List Bool) (on set : ℕ → Bool) (code : ℕ)
     (rest : List ℕ) (place : Place) : Type 0 where
-  pub listed : IsAtRest clauses froms heads nodes codes kept
+  pub listed : IsAtRest clauses resume_at heads nodes codes kept
   pub walk : IsWalk heads nodes listed.on code rest place
   pub settled : (node : ℕ) → listed.on node ≡ Some code → IsNodeKept kept node
       → (has rest node ≡ true) ⊎ IsSettled on set (clause_at clauses (node / 2)) (node / 2)
 
 -- so do the tables of a propagator stand at a place of a walk
-abbrev pub AreVisited : Tables → Lists → List ℕ → ℕ → ℕ → List ℕ → Place → Type 0
+abbrev pub AreVisited : Tables → WatchState → List ℕ → ℕ → ℕ → List ℕ → Place → Type 0
 AreVisited t l trail codes code rest place =
-    IsVisiting (slot_clauses t.store t.slots.items) l.froms.items l.chains.heads.items l.chains.nodes.items codes (slot_flags t.kept.items t.slots.items)
+    IsVisiting (slot_clauses t.store t.slots.items) l.resume_at.items l.chains.heads.items l.chains.nodes.items codes (slot_flags t.kept.items t.slots.items)
     (has_literal trail) (slot_set (words_have l.pending.numbers) t.slots.items) code rest place
 
 -- past a node at a place of a walk they stand at the next place
-abbrev pub GoesOn : Tables → Lists → Lists → List ℕ → ℕ → ℕ → Place → Place → Type 0
+abbrev pub GoesOn : Tables → WatchState → WatchState → List ℕ → ℕ → ℕ → Place → Place → Type 0
 GoesOn t old new trail codes code place next =
     (rest : List ℕ) → AreVisited t old trail codes code (place.node ∷ rest) place → AreVisited t new trail codes code rest next
 
 -- the clauses of the slots that still watch a literal are settled
-abbrev pub AreSettled : Tables → Lists → List ℕ → ℕ → Type 0
+abbrev pub AreSettled : Tables → WatchState → List ℕ → ℕ → Type 0
 AreSettled t l trail code =
     AllSettled (slot_clauses t.store t.slots.items) l.chains.nodes.items (has_literal trail) (slot_set (words_have l.pending.numbers) t.slots.items) code
     (slot_flags t.kept.items t.slots.items)

@@ -24,6 +24,7 @@ use Rattle.race.specs.Tied.{race_state, IsTied}
 use Rattle.race_outcome.specs.Ends.{line_view, LineView, conflicts_in}
 use Rattle.race.specs.declared.racing.Racing.{Racing}
 use Rattle.race_outcome.specs.declared.line.Line.{Line}
+use Rattle.horizon_rates.specs.Limits.{last_horizon}
 
 pub all-push : {X : Type 0} (P : X → Type 0) (xs : List X) (x : X) → AllByRecursion P xs → P x → AllByRecursion P (xs ++ x ∷ [])
 all-push P [] x a p = (p, tt)
@@ -42,7 +43,7 @@ taken w w' None h none is took at narrow = absurd (elim (none.0 refl) [ inl wide
 
 -- a new run is one of the input
 pub is_run : (input : RaceInput) (h : ℕ) (run : RunView) → input.choose h ≡ choice_in run → run.formula ≡ input.formula h → (input.formula h).name ≡ h
-    → h ≤ 255 → literals_of (input.formula h) ≤ planner_literals → IsNew run → ((k : ℕ) → IsReached (choice_in run) run.formula k) → IsRunOf input run
+    → h ≤ last_horizon → literals_of (input.formula h) ≤ planner_literals → IsNew run → ((k : ℕ) → IsReached (choice_in run) run.formula k) → IsRunOf input run
 is_run input h run chosen formula name low small new reached =
     let named : run.formula.name ≡ h = ap (λ (f : Cnf). f.name) formula ∙ name in
     record {

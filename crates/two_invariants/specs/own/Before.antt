@@ -7,12 +7,13 @@ use Rattle.two_invariants.specs.own.Index.{takes_in, AreGivers}
 use Rattle.two_invariants.specs.declared.groups.Group.{Group}
 use Rattle.two_invariants.specs.declared.takers.Before.{Before}
 use Rattle.two_invariants.specs.declared.takers.Here.{Here}
+use Rattle.gt_core.specs.Limits.{most_facts}
 
 -- What is known before an action, and where the condition of a group of its effects holds besides.
 
 -- all is over literals of so many facts
 pub record IsBefore (before : Before) : Type 0 where
-  pub few : before.facts ≤ 2048
+  pub few : before.facts ≤ most_facts
   pub rows : AreRowsOf (2 * before.facts) before.rows.now
   pub set : IsSetOf (2 * before.facts) (row_has before.set.now)
   pub groups : AllByRecursion (GroupFits (2 * before.facts)) before.groups.now

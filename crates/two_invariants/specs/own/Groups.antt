@@ -25,7 +25,7 @@ pub record GroupFits (size : ℕ) (g : Group) : Type 0 where
 
 -- What an action breaks, where a test finds its effects.
 
--- an effect may take a literal under a condition that gives this set
+-- an effect may take a literal where this set is known: the set is no contradiction, and no sure add overrules a delete
 abbrev pub may_take_by : ℕ → (ℕ → (List ℕ → Bool) → Bool) → (ℕ → Bool) → ℕ → Bool
 may_take_by facts has set l = has_no_pair facts set && not (is_add l && has l (list_all set))
 

@@ -10,7 +10,7 @@ use Rattle.grounder.proofs.grounded.ground.Goals as goal
 use Rattle.grounder.proofs.grounded.ground.Goals.{After-ground_over}
 
 within_limit : (c : After-ground_over) → tuples_in c.args.p.now ≤ most_tuples
-within_limit c = few_saturated 4000000 _ c.count_tuples-count.result (omega arith) c.count_tuples-count.ensures c.if-count-gt4000000.false
+within_limit c = few_saturated most_tuples _ c.count_tuples-count.result (omega arith) c.count_tuples-count.ensures c.if-count-gt-MOST_TUPLES.false
 
 if_ok : (r : Result Grounded GroundError) (P Q : Grounded → Type 0) → ((g : Grounded) → P g → Q g) → IfOk r P → IfOk r Q
 if_ok (Ok g) P Q f h = f g h
@@ -18,7 +18,7 @@ if_ok (Err e) P Q f h = tt
 
 pub ground_over-requires : goal.ground_over-requires
 ground_over-requires c =
-    let few : tuples_in c.args.p.now ≤ most_tuples = few_saturated 4000000 _ c.count_tuples-count.result (omega arith) c.count_tuples-count.ensures c.if-count-gt4000000.false in
+    let few : tuples_in c.args.p.now ≤ most_tuples = few_saturated most_tuples _ c.count_tuples-count.result (omega arith) c.count_tuples-count.ensures c.if-count-gt-MOST_TUPLES.false in
     let fewer = thinned.few_tuples c.args.p.now c.in_ok-domains.domains c.in_ok-domains.ensures in
     omega (arith, few, fewer)
 

@@ -10,6 +10,7 @@ use Rattle.grounder.proofs.Few.{kept_few, left_few}
 use Rattle.grounder.proofs.Saturated.{few_saturated, many_saturated}
 use Rattle.grounder.proofs.Assembled.{found_is, found_sorted, with_task, few_actions}
 use Rattle.grounder.proofs.grounded.make_numbered.Goals as goal
+use Rattle.gt_core.specs.Limits.{most_conditional}
 
 pub known_of-requires-clause-sorted : goal.known_of-requires-clause-sorted
 known_of-requires-clause-sorted c = found_sorted c.laws.ensures.least_is_grounded c.args.domains.now c.args.facts.now c.args.kept c.requires.found
@@ -31,15 +32,15 @@ task_of-requires-clause-task c =
       tuples = c.requires.tuples;
       facts = omega (arith, c.requires.facts, ap length c.in_ok-known.ensures.facts);
       actions = few_actions c.in_ok-known.known.domains.now c.in_ok-known.known.facts c.args.kept c.in_ok-calls.calls c.in_ok-calls.ensures (omega (arith, c.count_actions-count.ensures));
-      effects = few_saturated 65536 _ _ (omega arith) count c.if-count-gt65536.false;
+      effects = few_saturated most_conditional _ _ (omega arith) count c.if-count-gt-MOST_CONDITIONAL.false;
     }))
 
 pub task_of-requires-clause-acts : goal.task_of-requires-clause-acts
 task_of-requires-clause-acts c =
-    rw c.as_slice-2.ensures (c.of.ensures ∙ rw c.as_slice.ensures at c.in_ok-counted.ensures.acts_are (omega (arith, c.if-count-gt65536.false)))
+    rw c.as_slice-2.ensures (c.of.ensures ∙ rw c.as_slice.ensures at c.in_ok-counted.ensures.acts_are (omega (arith, c.if-count-gt-MOST_CONDITIONAL.false)))
 
-pub returns-then-count-gt65536-clause-effects : goal.returns-then-count-gt65536-clause-effects
-returns-then-count-gt65536-clause-effects c =
+pub returns-then-count-gt-MOST_CONDITIONAL-clause-effects : goal.returns-then-count-gt-MOST_CONDITIONAL-clause-effects
+returns-then-count-gt-MOST_CONDITIONAL-clause-effects c =
     let of_task = c.in_ok-known.ensures.domains in
     let is = found_is c.laws.ensures.least_is_grounded c.args.domains.now c.in_ok-known.known.domains.now c.args.facts.now c.in_ok-known.known.facts c.args.kept c.in_ok-calls.calls of_task c.in_ok-known.ensures.facts c.requires.found c.in_ok-calls.ensures in
     let count : c.in_ok-counted.counted.conditional ≡ saturated (conditional_in (task_of c.args.domains.now c.in_ok-known.known.facts c.in_ok-calls.calls).actions) = rw (c.as_slice.ensures, of_task) at c.in_ok-counted.ensures.count in
@@ -49,7 +50,7 @@ returns-then-count-gt65536-clause-effects c =
       tuples = c.requires.tuples;
       facts = omega (arith, c.requires.facts, ap length c.in_ok-known.ensures.facts);
       actions = few_actions c.in_ok-known.known.domains.now c.in_ok-known.known.facts c.args.kept c.in_ok-calls.calls c.in_ok-calls.ensures (omega (arith, c.count_actions-count.ensures));
-      over = many_saturated 65536 _ _ count c.if-count-gt65536.true;
+      over = many_saturated most_conditional _ _ count c.if-count-gt-MOST_CONDITIONAL.true;
       count_is = (let same : n ≡ c.in_ok-counted.counted.conditional = cc in same ∙ count);
     }
 
@@ -59,8 +60,8 @@ returns-clause-grounded c =
     let is = found_is c.laws.ensures.least_is_grounded c.args.domains.now c.in_ok-known.known.domains.now c.args.facts.now c.in_ok-known.known.facts c.args.kept c.in_ok-calls.calls of_task c.in_ok-known.ensures.facts c.requires.found c.in_ok-calls.ensures in
     rw c.in_ok-known.ensures.facts at (with_task c.args.domains.now c.in_ok-known.known.facts c.in_ok-calls.calls c.in_ok-task.task is (rw (of_task, c.as_slice-2.ensures) at c.in_ok-task.ensures))
 
-pub returns-then-count-gt16384-clause-actions : goal.returns-then-count-gt16384-clause-actions
-returns-then-count-gt16384-clause-actions c =
+pub returns-then-count-gt-MOST_ACTIONS-clause-actions : goal.returns-then-count-gt-MOST_ACTIONS-clause-actions
+returns-then-count-gt-MOST_ACTIONS-clause-actions c =
     let of_task = c.in_ok-known.ensures.domains in
     let calls = actions_of c.in_ok-known.known.domains.now c.in_ok-known.known.facts c.args.kept in
     λ n e. record {

@@ -5,6 +5,7 @@ use Rattle.gt_core.proofs.published.Within.{lawful}
 use Rattle.step_formula.proofs.WalkLaw.{effects_next, effects_fit, effects_done, own_conditional, action_at_place}
 use Rattle.formula_defs.proofs.published.Sorted.{effects_of_action}
 use Rattle.step_formula.proofs.step_size.all_effects_size.Goals as goal
+use Rattle.gt_core.specs.Limits.{most_conditional}
 
 pub effects_size-size-requires : goal.effects_size-size-requires
 effects_size-size-requires c =
@@ -14,7 +15,7 @@ effects_size-size-requires c =
     record {
       facts = let l = (lawful task c.facts-facts.ensures.lawful).facts in omega (arith, facts, l);
       sorted = subst (λ (n : ℕ). are_effects n None c.effects.result.now ≡ true) (sym facts) (subst (λ (es : List Effect). are_effects task.facts None es ≡ true) (sym c.effects.ensures) own);
-      few = subst (λ (es : List Effect). count_by is_conditional es ≤ 65536) (sym c.effects.ensures) (own_conditional c.args.task.now c.acts-act-items.ensures.lawful c.acts-act-items.result.now c.loop-act.act-index c.act-item.result c.act-item.result c.acts-act-items.ensures.acts c.loop-act-test.true c.act-item.is);
+      few = subst (λ (es : List Effect). count_by is_conditional es ≤ most_conditional) (sym c.effects.ensures) (own_conditional c.args.task.now c.acts-act-items.ensures.lawful c.acts-act-items.result.now c.loop-act.act-index c.act-item.result c.act-item.result c.acts-act-items.ensures.acts c.loop-act-test.true c.act-item.is);
     }
 
 pub overflow_add-size : goal.overflow_add-size

@@ -47,7 +47,7 @@ widen-requires c =
       numbers = omega (arith, c.requires.inside, g.room);
       asks = omega (arith, c.requires.inside, g.long);
       nodes = omega (arith, g.rest.many, long, c.len-slot.ensures);
-      froms = omega (arith, g.rest.long, long, c.len-slot.ensures);
+      resume_at = omega (arith, g.rest.long, long, c.len-slot.ensures);
     }
 
 pub enter_last-requires-clause-below : goal.enter_last-requires-clause-below
@@ -68,7 +68,7 @@ pub enter_last-requires-clause-loose : goal.enter_last-requires-clause-loose
 enter_last-requires-clause-loose c =
     let slots = c.args.self.now.slots.items in
     let w = c.widen.new.self in
-    pair_loose (slot_clauses c.args.store.now slots) w.froms.items w.chains.heads.items w.chains.nodes.items c.args.codes (replicate (length slots) true) c.len-slot.result
+    pair_loose (slot_clauses c.args.store.now slots) w.resume_at.items w.chains.heads.items w.chains.nodes.items c.args.codes (replicate (length slots) true) c.len-slot.result
     (wide (goal.at.enter_last-requires-clause-loose c).After-widen).rest (omega (arith, c.len-slot.ensures, slots_long c.args.store.now slots))
 
 pub returns : goal.returns

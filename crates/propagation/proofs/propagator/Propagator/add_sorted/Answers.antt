@@ -47,7 +47,7 @@ make_room-requires c =
       numbers = omega (arith, i.asks.room, c.count-number.ensures.value);
       asks = omega (arith, i.asks.long, c.count-number.ensures.value);
       nodes = omega (arith, i.rest.many, long, c.len-slot.ensures);
-      froms = omega (arith, i.rest.long, long, c.len-slot.ensures);
+      resume_at = omega (arith, i.rest.long, long, c.len-slot.ensures);
     }
 
 pub invariant_of-self : goal.invariant_of-self
@@ -105,7 +105,7 @@ take_slot-requires-clause-loose c =
     let h = (goal.at.take_slot-requires-clause-loose c).After-make_room in
     let t = c.make_room.new.tables in
     let l = c.make_room.new.lists in
-    pair_loose (clauses_in t) l.froms.items l.chains.heads.items l.chains.nodes.items (2 * w.variables) (flags_in t) (length t.slots.items) (roomy h).rest
+    pair_loose (clauses_in t) l.resume_at.items l.chains.heads.items l.chains.nodes.items (2 * w.variables) (flags_in t) (length t.slots.items) (roomy h).rest
     (sym (slots_long t.store t.slots.items))
 
 pub raise-requires-clause-number : goal.raise-requires-clause-number

@@ -100,7 +100,7 @@ visit_all-requires-clause-tables c =
 pub visit_all-requires-clause-rest : goal.visit_all-requires-clause-rest
 visit_all-requires-clause-rest c =
     let w = c.self.inside in
-    subst (λ (n : ℕ). IsAtRest (clauses_in w.tables) w.lists.froms.items w.lists.chains.heads.items w.lists.chains.nodes.items (2 * n) (flags_in w.tables))
+    subst (λ (n : ℕ). IsAtRest (clauses_in w.tables) w.lists.resume_at.items w.lists.chains.heads.items w.lists.chains.nodes.items (2 * n) (flags_in w.tables))
     (sym (over (goal.at.visit_all-requires-clause-rest c).After-assignment-assignment)) c.self.invariant.0.rest
 
 -- what the visits leave, on the trail with the literal
@@ -145,7 +145,7 @@ complete c tr cons =
     let grows = gone_grows was now is (λ k h. e.grows k (c.mark_pairs.ensures.grows k h)) in
     let slotted = assign_complete (clauses_in w.tables) w.lists.chains.nodes.items nodes (flags_in w.tables) trail
     x (slot_set was slots) (slot_set all slots) (flags_long w.tables.kept.items slots ∙ sym (slots_long w.tables.store slots))
-    (two_watched (clauses_in w.tables) c.visit_all.new.self.froms.items c.visit_all.new.self.chains.heads.items nodes
+    (two_watched (clauses_in w.tables) c.visit_all.new.self.resume_at.items c.visit_all.new.self.chains.heads.items nodes
     (2 * c.assignment-assignment.result.variables) (flags_in w.tables) e.rest)
     (whole_free (clauses_in w.tables) w.lists.chains.nodes.items (flags_in w.tables) trail i.free) (moves c)
     (settled_more (clauses_in w.tables) nodes on (slot_set is slots) (slot_set all slots) (opposite x) (flags_in w.tables) (λ k h. more (get_or slots k 0) h) (settled c))
@@ -175,7 +175,7 @@ invariant_of-self c =
       tables = i.tables;
       few = i.few;
       slots_few = i.slots_few;
-      rest = subst (λ (n : ℕ). IsAtRest (clauses_in w.tables) l'.froms.items l'.chains.heads.items l'.chains.nodes.items (2 * n) (flags_in w.tables)) (over here) e.rest;
+      rest = subst (λ (n : ℕ). IsAtRest (clauses_in w.tables) l'.resume_at.items l'.chains.heads.items l'.chains.nodes.items (2 * n) (flags_in w.tables)) (over here) e.rest;
       free = assign_free (clauses_in w.tables) w.lists.chains.nodes.items l'.chains.nodes.items (flags_in w.tables) trail x
           (slot_set (words_have l'.pending.numbers) w.tables.slots.items) i.free (moves visited) (settled visited);
       consistent = consistent here;

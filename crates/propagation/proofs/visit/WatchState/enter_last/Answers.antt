@@ -2,15 +2,15 @@ use Rattle.std.proofs.Common.{arith, ◌≡◌, ◌-◌, ◌∙◌, [], set, ref
 use Rattle.std.proofs.lemmas.List.{get_or_read}
 use Rattle.propagation.proofs.Enters.{IsEntered, rests_long}
 use Rattle.propagation.proofs.Falls.{outlasts_none}
-use Rattle.propagation.proofs.visit.Lists.enter_last.Goals as goal
+use Rattle.propagation.proofs.visit.WatchState.enter_last.Goals as goal
 
 pub returns-clause-rest : goal.returns-clause-rest
 returns-clause-rest c =
     let k = c.args.clause.now in
-    let froms = set c.args.self.now.froms.items c.args.slot 0 in
-    let e : IsEntered k c.args.slot [] froms c.args.self.now.chains.heads.items c.args.self.now.chains.nodes.items
+    let resume_at = set c.args.self.now.resume_at.items c.args.slot 0 in
+    let e : IsEntered k c.args.slot [] resume_at c.args.self.now.chains.heads.items c.args.self.now.chains.nodes.items
     c.link_two.new.self.heads.items c.link_two.new.self.nodes.items c.a.inside.0 c.b.inside.0 = record {
-      below = omega (arith, c.requires.room.in_froms, length-set c.args.self.now.froms.items c.args.slot 0);
+      below = omega (arith, c.requires.room.in_froms, length-set c.args.self.now.resume_at.items c.args.slot 0);
       lawful = c.requires.lawful;
       room = omega (arith, c.requires.room.in_nodes, c.link_two.ensures.nodes);
       first = c.len-length.result - 1;
@@ -29,5 +29,5 @@ returns-clause-rest c =
       second_note = c.link_two.ensures.second;
       others = c.link_two.ensures.others;
     } in
-    rests_long k c.args.slot [] c.args.self.now.froms.items froms c.args.self.now.chains.heads.items c.args.self.now.chains.nodes.items
+    rests_long k c.args.slot [] c.args.self.now.resume_at.items resume_at c.args.self.now.chains.heads.items c.args.self.now.chains.nodes.items
     c.link_two.new.self.heads.items c.link_two.new.self.nodes.items c.a.inside.0 c.b.inside.0 c.args.codes e

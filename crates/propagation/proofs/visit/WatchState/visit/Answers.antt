@@ -14,8 +14,8 @@ use Rattle.propagation.proofs.Filters.{has_get, settled_one, settled_true}
 use Rattle.propagation.proofs.Visits.{has_below, visited_stay, visited_drop, visited_move, moves_own, unit_beside, grows_insert, own_insert}
 use Rattle.propagation.proofs.Slotted.{fit_slots, slots_long, slot_at, insert_at}
 use Rattle.propagation.proofs.AsksKept.{asks_put}
-use Rattle.propagation.proofs.visit.Lists.visit.Goals as goal
-use Rattle.propagation.proofs.visit.Lists.visit.Goals.{After-blocking-beside, After-free, After-other, After-move_to, In-None}
+use Rattle.propagation.proofs.visit.WatchState.visit.Goals as goal
+use Rattle.propagation.proofs.visit.WatchState.visit.Goals.{After-blocking-beside, After-free, After-other, After-move_to, In-None}
 
 -- the node is of a clause
 real : (c : After-blocking-beside) → IsReal (clauses_in c.args.tables.now) c.args.place.node
@@ -47,7 +47,7 @@ returns-then-is_true-clause-visited c rest v =
     let on = has_literal c.args.assignment.now.trail in
     let set = slot_set (words_have c.args.self.now.pending.numbers) c.args.tables.now.slots.items in
     let h = ap (λ (x : ℕ). has_literal (clause_at cl (nd / 2)) x) c.blocking-beside.ensures ∙ v.listed.blockings nd (v.listed.real nd c.args.code v.walk.ahead.0) in
-    visited_stay cl c.args.self.now.froms.items c.args.self.now.chains.heads.items c.args.self.now.chains.nodes.items (2 * c.args.assignment.now.variables)
+    visited_stay cl c.args.self.now.resume_at.items c.args.self.now.chains.heads.items c.args.self.now.chains.nodes.items (2 * c.args.assignment.now.variables)
     (slot_flags c.args.tables.now.kept.items c.args.tables.now.slots.items) on set set c.args.code nd rest c.args.place c.after.result v
     (c.after.ensures v.listed.on c.args.code rest v.walk) (λ k g. g)
     (λ m. settled_true on set (clause_at cl (nd / 2)) c.blocking-beside.result (nd / 2) h (sym c.is_true.ensures ∙ c.if-is_true.true))
@@ -62,7 +62,7 @@ drop_at-requires c = record { walk = (c.requires.visited.1.listed.on, c.requires
 pub returns-then-not-is_slot_kept-clause-visited : goal.returns-then-not-is_slot_kept-clause-visited
 returns-then-not-is_slot_kept-clause-visited c rest v =
     let d = c.drop_at.ensures in
-    visited_drop (clauses_in c.args.tables.now) c.args.self.now.froms.items c.args.self.now.chains.heads.items c.drop_at.new.self.heads.items
+    visited_drop (clauses_in c.args.tables.now) c.args.self.now.resume_at.items c.args.self.now.chains.heads.items c.drop_at.new.self.heads.items
     c.args.self.now.chains.nodes.items c.drop_at.new.self.nodes.items (2 * c.args.assignment.now.variables)
     (slot_flags c.args.tables.now.kept.items c.args.tables.now.slots.items) (has_literal c.args.assignment.now.trail)
     (slot_set (words_have c.args.self.now.pending.numbers) c.args.tables.now.slots.items) c.args.code c.args.place.node rest c.args.place c.drop_at.result v
@@ -75,15 +75,15 @@ slot_clause-clause-requires-clause-inside c =
 pub slot_clause-clause-requires-clause-below : goal.slot_clause-clause-requires-clause-below
 slot_clause-clause-requires-clause-below c = c.requires.tables.slotted
 
-pub find_other-requires-clause-below : goal.find_other-requires-clause-below
-find_other-requires-clause-below c p g =
+pub new_watch-requires-clause-below : goal.new_watch-requires-clause-below
+new_watch-requires-clause-below c p g =
     let e = c.slot_clause-clause.ensures in
     let fit = fit_slots c.args.tables.now.store c.args.tables.now.slots.items (2 * c.args.assignment.now.variables) c.requires.tables.fit in
     let l = fit.below (c.args.place.node / 2) p (subst (λ (xs : List ℕ). p < length xs) e g) in
     omega (arith, l, ap (λ (xs : List ℕ). get_or xs p 0) e)
 
-pub find_other-requires-clause-short : goal.find_other-requires-clause-short
-find_other-requires-clause-short c =
+pub new_watch-requires-clause-short : goal.new_watch-requires-clause-short
+new_watch-requires-clause-short c =
     let short = (fit_slots c.args.tables.now.store c.args.tables.now.slots.items (2 * c.args.assignment.now.variables) c.requires.tables.fit).short (c.args.place.node / 2) in
     omega (arith, short, ap (λ (xs : List ℕ). length xs) c.slot_clause-clause.ensures)
 
@@ -165,12 +165,12 @@ returns-in-Some-clause-visited c rest v =
     let ne : c.free.inside.0 ≡ blocking_of c.args.self.now.chains.nodes.items nd → ⊥ = (λ (e : c.free.inside.0 ≡ blocking_of c.args.self.now.chains.nodes.items nd).
     c.in-Some.ensures.other (ap (λ (xs : List ℕ). get_or xs c.in-Some.found 0) c.slot_clause-clause.ensures ∙ sym f.1 ∙ e ∙ sym c.blocking-beside.ensures)) in
     let apart = not_code on c.args.code c.free.inside.0 c.requires.falsified free in
-    visited_move cl c.args.self.now.froms.items (set c.args.self.now.froms.items (nd / 2) c.in-Some.found) c.args.self.now.chains.heads.items
+    visited_move cl c.args.self.now.resume_at.items (set c.args.self.now.resume_at.items (nd / 2) c.in-Some.found) c.args.self.now.chains.heads.items
     c.move_to.new.self.heads.items c.args.self.now.chains.nodes.items c.move_to.new.self.nodes.items (2 * c.args.assignment.now.variables)
     (slot_flags c.args.tables.now.kept.items c.args.tables.now.slots.items) on
     (slot_set (words_have c.args.self.now.pending.numbers) c.args.tables.now.slots.items) c.args.code nd c.free.inside.0 rest c.args.place c.move_to.result v
     (m.walk v.listed.on rest (c.note.ensures.walk v.listed.on c.args.code (nd ∷ rest) c.args.place v.walk))
-    (m.codes ∙ ap (λ (xs : List ℕ). length xs) c.note.ensures.heads) (m.nodes ∙ c.note.ensures.nodes) (length-set c.args.self.now.froms.items (nd / 2) c.in-Some.found)
+    (m.codes ∙ ap (λ (xs : List ℕ). length xs) c.note.ensures.heads) (m.nodes ∙ c.note.ensures.nodes) (length-set c.args.self.now.resume_at.items (nd / 2) c.in-Some.found)
     (own at.After-move_to (other_is at.After-other)) (others at.After-move_to (other_is at.After-other)) has_free ne (λ e. apart (sym e))
 
 pub returns-in-Some-clause-moves : goal.returns-in-Some-clause-moves
@@ -220,7 +220,7 @@ returns-in-None-clause-visited c rest v =
     let is = words_have c.put.new.self.numbers in
     let has = insert_at was is c.number_at.result (get_or slots (nd / 2) 0) c.number_at.ensures c.put.ensures.has in
     let u = unit at.In-None ((fit at.After-blocking-beside).lawful (nd / 2)) (beside at.After-blocking-beside) in
-    visited_stay cl c.args.self.now.froms.items c.args.self.now.chains.heads.items c.args.self.now.chains.nodes.items (2 * c.args.assignment.now.variables)
+    visited_stay cl c.args.self.now.resume_at.items c.args.self.now.chains.heads.items c.args.self.now.chains.nodes.items (2 * c.args.assignment.now.variables)
     (slot_flags c.args.tables.now.kept.items slots) on (slot_set was slots) (slot_set is slots) c.args.code nd rest c.args.place c.after-in-None.result v
     (c.after-in-None.ensures v.listed.on c.args.code rest v.walk) (λ k h. grows_insert was is (get_or slots (nd / 2) 0) has (get_or slots k 0) h)
     (λ m. settled_one on (slot_set is slots) (clause_at cl (nd / 2)) u.place (nd / 2) u.others (own_insert was is (get_or slots (nd / 2) 0) has))

@@ -5,7 +5,7 @@ use Rattle.cdcl_tables.specs.Walk.{left_from}
 use Rattle.propagation.specs.own.Asks.{HasAsks}
 use Rattle.propagation.specs.own.Tables.{clauses_in}
 use Rattle.propagation.specs.own.Visit.{AreVisited, MovesToFree, Grows}
-use Rattle.propagation.proofs.visit.Lists.visit_all.Given as goal
+use Rattle.propagation.proofs.visit.WatchState.visit_all.Given as goal
 
 abbrev pub invariant-visits : goal.invariant-visits
 invariant-visits l = record {

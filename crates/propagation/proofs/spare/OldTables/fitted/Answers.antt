@@ -1,7 +1,7 @@
 use Rattle.std.proofs.Common.{◌*◌, ◌∙◌, ℕ, true, length, replicate, ap, subst}
 use Rattle.propagation.specs.own.Given.{AreGiven}
 use Rattle.propagation.proofs.Givens.{fit_store}
-use Rattle.propagation.proofs.spare.Spare.fitted.Goals as goal
+use Rattle.propagation.proofs.spare.OldTables.fitted.Goals as goal
 
 pub renewed-requires-clause-fit : goal.renewed-requires-clause-fit
 renewed-requires-clause-fit c =

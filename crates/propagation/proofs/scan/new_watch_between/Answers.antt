@@ -3,8 +3,8 @@ use Rattle.std.proofs.lemmas.List.{get_or_read}
 use Rattle.clause_base.specs.View.{shifted}
 use Rattle.clause_base.proofs.published.ViewLemmas.{up_high}
 use Rattle.propagation.proofs.Runs.{as_long, low_item, high_item, sought_none, sought_other}
-use Rattle.propagation.proofs.scan.find_free.Goals as goal
-use Rattle.propagation.proofs.scan.find_free.Goals.{After-lit}
+use Rattle.propagation.proofs.scan.new_watch_between.Goals as goal
+use Rattle.propagation.proofs.scan.new_watch_between.Goals.{After-lit}
 
 -- the literal that is read stands in the clause
 inside : (c : After-lit) → c.loop-place.place < length c.args.clause.now
@@ -33,15 +33,15 @@ same c h p le lt =
     let there : p < length m.lits.now = omega (arith, lt, long c) in
     high_item c.args.clause.now m.lits.now m.limit m.low m.high p c.moving-moving.ensures.value there (past c h p le there)
 
-pub find_rest-requires-clause-fits : goal.find_rest-requires-clause-fits
-find_rest-requires-clause-fits c = λ p le lt small.
+pub new_watch_in_time-requires-clause-fits : goal.new_watch_in_time-requires-clause-fits
+new_watch_in_time-requires-clause-fits c = λ p le lt small.
     let m = c.moving-moving.result in
-    subst (λ (n : ℕ). n ≤ 4294967295) (up_high m.limit m.low m.high (get_or m.lits.now p 0) (past (goal.at.find_rest-requires-clause-fits c).After-lit c.if-lit-moving.true p le lt))
+    subst (λ (n : ℕ). n ≤ 4294967295) (up_high m.limit m.low m.high (get_or m.lits.now p 0) (past (goal.at.new_watch_in_time-requires-clause-fits c).After-lit c.if-lit-moving.true p le lt))
     (c.moving-moving.ensures.moved.codes p 0 lt small)
 
-pub find_rest-requires-clause-below : goal.find_rest-requires-clause-below
-find_rest-requires-clause-below c = λ p le lt.
-    let at = (goal.at.find_rest-requires-clause-below c).After-lit in
+pub new_watch_in_time-requires-clause-below : goal.new_watch_in_time-requires-clause-below
+new_watch_in_time-requires-clause-below c = λ p le lt.
+    let at = (goal.at.new_watch_in_time-requires-clause-below c).After-lit in
     let there : p < length c.args.clause.now = omega (arith, lt, long at) in
     subst (λ (n : ℕ). n < 2 * c.args.assignment.now.variables) (sym (same at c.if-lit-moving.true p le there)) (c.requires.below p there)
 
@@ -49,13 +49,13 @@ pub returns-then-lit-moving-clause-none : goal.returns-then-lit-moving-clause-no
 returns-then-lit-moving-clause-none c =
     let m = c.moving-moving.result in
     sought_none c.args.assignment.now.trail c.args.clause.now m.lits.now m.high c.args.skipped c.args.low c.loop-place.place c.args.high c.requires.high
-    (same (goal.at.returns-then-lit-moving-clause-none c).After-lit c.if-lit-moving.true) c.find_rest.result c.find_rest.ensures c.loop-place.invariant
+    (same (goal.at.returns-then-lit-moving-clause-none c).After-lit c.if-lit-moving.true) c.new_watch_in_time.result c.new_watch_in_time.ensures c.loop-place.invariant
 
 pub returns-then-lit-moving-clause-other : goal.returns-then-lit-moving-clause-other
 returns-then-lit-moving-clause-other c =
     let m = c.moving-moving.result in
     sought_other c.args.assignment.now.trail c.args.clause.now m.lits.now m.high c.args.skipped c.args.low c.loop-place.place c.args.high c.requires.high
-    (same (goal.at.returns-then-lit-moving-clause-other c).After-lit c.if-lit-moving.true) c.find_rest.result c.find_rest.ensures
+    (same (goal.at.returns-then-lit-moving-clause-other c).After-lit c.if-lit-moving.true) c.new_watch_in_time.result c.new_watch_in_time.ensures
 
 pub is_false-requires : goal.is_false-requires
 is_false-requires c =

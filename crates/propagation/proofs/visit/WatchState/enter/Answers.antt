@@ -4,21 +4,21 @@ use Rattle.clause_base.specs.Clause.{has_literal}
 use Rattle.propagation.specs.Pending.{is_free}
 use Rattle.propagation.proofs.Asks.{false_past, false_after}
 use Rattle.propagation.proofs.Enters.{IsEntered, rests_long, free_long, quiet_long}
-use Rattle.propagation.proofs.visit.Lists.enter.Goals as goal
-use Rattle.propagation.proofs.visit.Lists.enter.Goals.{After-link_two}
+use Rattle.propagation.proofs.visit.WatchState.enter.Goals as goal
+use Rattle.propagation.proofs.visit.WatchState.enter.Goals.{After-link_two}
 
 pub overflow_add-result : goal.overflow_add-result
 overflow_add-result c = omega (arith, c.latest_two-two.ensures.second_until.short, c.requires.small)
 
 -- the list of where searches go on, with that of the slot
 abbrev froms_of : After-link_two → List ℕ
-froms_of c = set c.args.self.now.froms.items c.args.slot 0
+froms_of c = set c.args.self.now.resume_at.items c.args.slot 0
 
 entered : (c : After-link_two)
     → IsEntered c.args.clause.now c.args.slot c.args.assignment.now.trail (froms_of c) c.args.self.now.chains.heads.items
     c.args.self.now.chains.nodes.items c.link_two.new.self.heads.items c.link_two.new.self.nodes.items c.a.inside.0 c.b.inside.0
 entered c = record {
-  below = omega (arith, c.requires.room.in_froms, length-set c.args.self.now.froms.items c.args.slot 0);
+  below = omega (arith, c.requires.room.in_froms, length-set c.args.self.now.resume_at.items c.args.slot 0);
   lawful = c.requires.lawful;
   first = c.latest_two-two.result.first;
   second = c.latest_two-two.result.second;
@@ -40,7 +40,7 @@ entered c = record {
 
 pub returns-clause-rest : goal.returns-clause-rest
 returns-clause-rest c =
-    rests_long c.args.clause.now c.args.slot c.args.assignment.now.trail c.args.self.now.froms.items (froms_of (goal.at.returns-clause-rest c).After-link_two)
+    rests_long c.args.clause.now c.args.slot c.args.assignment.now.trail c.args.self.now.resume_at.items (froms_of (goal.at.returns-clause-rest c).After-link_two)
     c.args.self.now.chains.heads.items c.args.self.now.chains.nodes.items c.link_two.new.self.heads.items c.link_two.new.self.nodes.items
     c.a.inside.0 c.b.inside.0 (2 * c.args.assignment.now.variables) (entered (goal.at.returns-clause-rest c).After-link_two)
 

@@ -2,7 +2,7 @@ use Rattle.std.proofs.Common.{arith, inl, refl}
 use Rattle.clause_base.specs.Clause.{has_literal}
 use Rattle.propagation.specs.own.Tables.{clauses_in}
 use Rattle.propagation.proofs.Visits.{moves_on, all_settled, visited_node, visited_end}
-use Rattle.propagation.proofs.visit.Lists.visit_all.Goals as goal
+use Rattle.propagation.proofs.visit.WatchState.visit_all.Goals as goal
 
 pub visits-init : goal.visits-init
 visits-init c =
