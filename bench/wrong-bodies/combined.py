@@ -62,6 +62,15 @@ fn main(rt: HostRuntime) -> ExitCode {
 }
 """
 
+# For a main that gives its words to a call which passes over the first one.
+BEHIND = """
+fn behind(given: io::Result<Args<Global>>) -> io::Result<Args<Global>> {
+    let mut words = given?;
+    let _ = words.next();
+    Ok(words)
+}
+"""
+
 TEST = re.compile(r"(?:#\[test\]\n)?((?:#\[[^\n]*\n)*)(?:pub\(crate\) )?fn (\w+)\(rt: HostRuntime\) \{\n(.*?\n\})\n", re.S)
 
 def tests_of(text):
@@ -92,6 +101,8 @@ def take_mains(crates, source):
     for crate, module in MAINS.items():
         text = (crates / crate / "src/main.rt").read_text()
         text = text[: text.index("fn main(")].replace("#![tactic(auto)]\n", "").replace("//!", "//").replace("given.skip(1)", "given.skip(2)")
+        if "words_of(alloc, given)" in text:
+            text = text.replace("words_of(alloc, given)", "words_of(alloc, behind(given))") + BEHIND
         (source / f"{module}.rt").write_text(re.sub(r"^fn run_program", "pub(crate) fn run_program", text, flags=re.M))
 
 def combine(root):

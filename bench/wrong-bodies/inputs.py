@@ -25,8 +25,8 @@ MOST_REFUSED = 24
 
 class Input(NamedTuple):
     """A run of the program: what shows it, the words, the folder, what is due on its output and as its status, how many bytes it may
-    write where that is bounded, what comes through a pipe on its input, the number of an allocation that fails, and what is run. A
-    run without a folder has an empty one of its own."""
+    write where that is bounded, what comes through a pipe on its input, the number of an allocation that fails, what is run, and
+    whether its input is a pipe that stays open. A run without a folder has an empty one of its own."""
     shows: str
     words: tuple
     folder: pathlib.Path | None
@@ -36,14 +36,18 @@ class Input(NamedTuple):
     fed: bytes = b""
     refused: int = 0
     kind: str = PLANNER
+    held: bool = False
 
     def command(self, program, seconds, memory):
         """The words of a run that is held to so many seconds of the processor and bytes of memory."""
         room = [f"--fsize={self.room}"] if self.room is not None and self.room >= 0 else []
         return ["prlimit", f"--cpu={seconds}", f"--as={memory}", *room, str(program), *([self.kind] if self.kind else []), *self.words]
 
-    def input(self):
-        """What the run reads from: a pipe with what it is fed, or the device that is empty."""
+    def input(self, room):
+        """What the run reads from: a pipe with what it is fed or that stays open, or the device that is empty."""
+        if self.held:
+            os.mkfifo(f"{room}/held")
+            return open(os.open(f"{room}/held", os.O_RDWR), "rb", buffering=0)
         if not self.fed:
             return open("/dev/null", "rb")
         out, into = os.pipe()
@@ -62,7 +66,7 @@ class Input(NamedTuple):
     def ended(self, program, number, seconds=60, memory=3 << 30, hits=None):
         """What a run with the body of a number writes, and its status; nothing where it does not end."""
         env = {"WRONG_BODY": str(number), "WRONG_ALLOCATION": str(self.refused)} | ({"WRONG_HITS": str(hits)} if hits else {})
-        with self.out() as out, self.input() as fed, tempfile.TemporaryDirectory() as own:
+        with tempfile.TemporaryDirectory() as own, self.out() as out, self.input(own) as fed:
             given = {"cwd": self.folder or own, "stdin": fed, "stderr": subprocess.DEVNULL, "restore_signals": False, "env": env}
             with subprocess.Popen(self.command(program, seconds, memory), stdout=out, **given) as run:
                 if not ends(run):
@@ -126,7 +130,7 @@ def rows(program, folder):
             plain = run.changes is None and run.shut is None and not run.due.more and not run.due.made
             if plain and run.program in programs and (run.room is None or run.room >= 0) and (run.first is None or run.room is not None):
                 words = tuple(run.command(programs)[1:])
-                yield Input(f"row {shows}", words, folder, run.text, run.status, run.room, run.fed or b"", kind=run.program)
+                yield Input(f"row {shows}", words, folder, run.text, run.status, run.room, run.fed or b"", kind=run.program, held=run.held)
 
 def tests():
     """Each test, which is due to end well; one of them prints."""

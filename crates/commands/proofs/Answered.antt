@@ -14,12 +14,12 @@ use Rattle.race_outcome.specs.declared.end.RaceEnd.TheVariants as races
 use Rattle.race_outcome.specs.Ends.{EndView, end_view}
 use Rattle.race.specs.Ends.{WherePlanned, AreActions}
 use Rattle.plan_report.specs.Laws.{HasActionsBelow}
-use Rattle.input_files.specs.declared.stop.Stop.{Stop}
+use Rattle.plan_endings.specs.declared.stop.Stop.{Stop}
 use Rattle.plan_endings.specs.declared.ending.Ending.{Ending}
-use Rattle.input_files.specs.Ends.{EndsBy, EndsAs}
+use Rattle.plan_endings.specs.Ends.{EndsBy, EndsAs}
 use Rattle.commands.specs.Tasks.{AreTask, IsReady, StopsTask, RefusesTask, OnceRead, not_read, OnceGrounded, not_grounded, grounded}
 use Rattle.commands.specs.Raced.{OnceRaced, too_large, TellsTooLarge}
-use Rattle.input_files.proofs.published.Stopped.{EndsAs-handed}
+use Rattle.plan_endings.proofs.published.Stopped.{EndsAs-handed}
 
 -- ---- lists of so many files
 

@@ -2,15 +2,15 @@
 ghost use Rattle.std.specs.Prelude.{◌≡◌, ◌≤◌, length, IfOk};
 ghost use Rattle.input_files.specs.Limits.{most_bytes};
 ghost use Rattle.certificates.specs.Certificate.{IsSpelled};
-ghost use Rattle.input_files.specs.Ends.{EndsAs, StopsBy};
+ghost use Rattle.plan_endings.specs.Ends.{EndsAs, StopsBy};
 ghost use Rattle.commands.specs.Answers.{AnswersProve, AnswersVerify, RefusesProof, ending_of_run, ending_of_check};
 ghost use Rattle.commands.specs.Tasks.{OnceRead, OnceGrounded};
 
 use certificates::ProofError;
 use certificates::prove::{Proved, prove};
 use certificates::verify::{Judged, verify};
-use input_files::stop::{Stop, refuse};
 use pl_io::Bytes;
+use plan_endings::stop::{Stop, refuse};
 use plan_endings::{Ending, File, Kind};
 use plan_tasks::ground::ground_task;
 use plan_tasks::ready::read_ready;

@@ -5,14 +5,14 @@ ghost use Rattle.plan_gen.specs.Task.{domain_of, problem_of};
 ghost use Rattle.input_files.specs.Limits.{most_bytes};
 ghost use Rattle.commands.specs.Tasks.{OnceGrounded};
 ghost use Rattle.commands.specs.Generated.{AnswersGenerated, RacesGenerated, kind_text, generated_line, generated_report};
-ghost use Rattle.input_files.specs.Ends.{EndsAs};
+ghost use Rattle.plan_endings.specs.Ends.{EndsAs};
 
 use crate::raced::{outcome, raced};
 use horizon_rates::Settings;
-use input_files::stop::Stop;
 use pd_model::Memory;
 use pl_io::Bytes;
 use plan_endings::Ending;
+use plan_endings::stop::Stop;
 use plan_gen::{Kind, Made, generate};
 use plan_report::summary_text;
 use plan_tasks::ready::read_ready;

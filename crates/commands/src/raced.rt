@@ -3,7 +3,7 @@ ghost use Rattle.std.specs.Prelude.{◌≡◌, IfOk};
 ghost use Rattle.race_outcome.specs.Ends.{end_view};
 ghost use Rattle.commands.specs.Stepping.{places_by, is_plan_by};
 ghost use Rattle.commands.specs.Raced.{IsKnown, ComesTo, TellsTooLarge, outcome_of};
-ghost use Rattle.input_files.specs.Ends.{StopsBy, OnlyMemory};
+ghost use Rattle.plan_endings.specs.Ends.{StopsBy, OnlyMemory};
 
 use action_order::order::Order;
 use action_order::publish::publish;
@@ -11,7 +11,7 @@ use all_steps::form::BothWays;
 use gt_core::pairs::Pairs;
 use gt_core::task::Task;
 use horizon_rates::Settings;
-use input_files::stop::Stop;
+use plan_endings::stop::Stop;
 use plan_endings::{Ending, Outcome};
 use race::{RaceError, race};
 use race_outcome::RaceEnd;

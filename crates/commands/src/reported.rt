@@ -5,13 +5,13 @@ ghost use Rattle.plan_report.specs.Report.{report_of};
 ghost use Rattle.plan_report.specs.Laws.{HasActionsBelow, IsSmall};
 ghost use Rattle.commands.specs.Raced.{outcome_of};
 ghost use Rattle.plan_endings.specs.declared.ending.Ending.{Ending};
-ghost use Rattle.input_files.specs.Ends.{OnlyMemory};
+ghost use Rattle.plan_endings.specs.Ends.{OnlyMemory};
 
 use crate::raced::outcome;
 use horizon_rates::Settings;
-use input_files::stop::Stop;
 use pl_io::Bytes;
 use plan_endings::Ending;
+use plan_endings::stop::Stop;
 use plan_report::report_text;
 use plan_tasks::ready::Ready;
 use race_outcome::RaceEnd;

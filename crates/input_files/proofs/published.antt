@@ -1,3 +1,2 @@
-pub mod Stopped
 pub mod Taking
 pub mod Hearing

@@ -1,5 +1,5 @@
 //! The files that the words of a command line name: they are taken from a shelf in the order of the words, each at most once, or one of
-//! them ends the run. Why a run has no more to decide is a [`stop::Stop`].
+//! them ends the run.
 //!
 //! ```text
 //! let files = take_all::<Bytes, S>(alloc, &request, shelf)?;    // the bytes of each; or the run stops with an ending
@@ -8,5 +8,4 @@
 
 pub mod first;
 pub mod parts;
-pub mod stop;
 pub mod take;

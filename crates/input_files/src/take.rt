@@ -3,13 +3,13 @@ ghost use Rattle.std.specs.Prelude.{◌≡◌, ◌≤◌, ◌++◌, ◌∷◌, [
 ghost use Rattle.pl_io.specs.Outside.{Notes, Heard, Agrees};
 ghost use Rattle.requests.specs.Seen.{seen, files_of};
 ghost use Rattle.input_files.specs.Limits.{file_at, third_of, most_of};
-ghost use Rattle.input_files.specs.Ends.{StopsBy};
+ghost use Rattle.plan_endings.specs.Ends.{StopsBy};
 ghost use Rattle.plan_endings.specs.declared.ending.File.{File as FileValue};
 ghost use Rattle.plan_endings.specs.declared.ending.Ending.{Ending as EndingValue};
 ghost use Rattle.input_files.specs.Files.{IsFault, IsWhole, IsWholeOrFront, IsKept, Stops, AreKept, OneEnds, Rises, NotesAmong};
 
-use crate::stop::Stop;
 use pl_io::{Bytes, Shelf, TakeError, Taken};
+use plan_endings::stop::Stop;
 use plan_endings::{Ending, File};
 use requests::Request;
 use std::alloc::Global;

@@ -7,16 +7,13 @@ ghost use Rattle.std.specs.Process.{exit_status};
 
 use judge_top::judge;
 use pl_io::{FileShelf, FileTape, OutSink};
+use plan_endings::{NO_WORDS, words_of};
 use std::alloc::{AllocGlobal, Global};
 use std::env::{self, Args};
 use std::io;
 use std::process::ExitCode;
 use std::rt::Files;
 use std::thread::Threads;
-
-/// The exit status where the system does not give the words, also for want of memory to hold them; the top call never
-/// answers it.
-const NO_WORDS: u8 = 9;
 
 /// Runs the judge on the words that the system gives, of which the first names the program.
 fn run_program<H: Files + Input + Print + Threads + Sync + AllocGlobal>(
@@ -26,10 +23,7 @@ fn run_program<H: Files + Input + Print + Threads + Sync + AllocGlobal>(
 ) -> ExitCode
     ensures no_words { IsErr given → exit_status result ≡ 9 }
 {
-    let Ok(given) = given else {
-        return ExitCode::from(NO_WORDS);
-    };
-    let Ok(words) = given.skip(1).collect::<Vec<String>>(alloc) else {
+    let Some(words) = words_of(alloc, given) else {
         return ExitCode::from(NO_WORDS);
     };
     let mut shelf = FileShelf::new(rt, alloc);

@@ -18,9 +18,9 @@ use Rattle.step_plans.specs.Known.{form_of, formula_at}
 use Rattle.requests.specs.declared.request.Stepping.{Stepping}
 use Rattle.plan_tasks.specs.Stepping.{places_by, is_plan_by}
 use Rattle.plan_endings.specs.declared.ending.Ending.TheVariants.{Listing}
-use Rattle.input_files.specs.declared.stop.Stop.{Stop}
-use Rattle.input_files.specs.declared.stop.Stop.TheVariants.{Ends, Memory}
-use Rattle.input_files.specs.Ends.{StopsBy}
+use Rattle.plan_endings.specs.declared.stop.Stop.{Stop}
+use Rattle.plan_endings.specs.declared.stop.Stop.TheVariants.{Ends, Memory}
+use Rattle.plan_endings.specs.Ends.{StopsBy}
 use Rattle.judge_top.specs.declared.ended.Ended.TheVariants.{Plain}
 use Rattle.judge_top.specs.Answers.{TapeRun, OfKnown, IsFormula, IsTooMany, TellsTooMany, IsToldOf, IsTold, IsBelow, HasNone, word_of, IsVerdict}
 use Rattle.judge_top.specs.declared.model.Told.{Told}

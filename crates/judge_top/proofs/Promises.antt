@@ -30,7 +30,7 @@ use Rattle.plan_report.specs.Laws.{IsSmallPlan}
 use Rattle.plan_tasks.specs.PlanLaws.{PlanLaws}
 use Rattle.plan_tasks.proofs.published.TellingPlans.{model_runs}
 use Rattle.plan_tasks.proofs.published.Printing.{printed_is}
-use Rattle.plan_tasks.proofs.published.Statuses.{six_seven, six_seven_eight}
+use Rattle.plan_endings.proofs.published.Statuses.{six_seven, six_seven_eight}
 use Rattle.judge_top.specs.Seen.{Seen, formulas, judges, models, domain_of, problem_of}
 use Rattle.judge_top.specs.Requested.{requested}
 use Rattle.judge_top.specs.Ended.{status_of, text_of}

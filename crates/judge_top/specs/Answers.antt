@@ -1,5 +1,5 @@
 -- What a domain and a problem, and a proof, come to for the judge.
-use Rattle.std.specs.Prelude.{◌≡◌, ◌≢◌, ◌<◌, ℕ, Bool, List, [], ◌∷◌, ◌++◌, codes, Result, Ok, Err, Option, Some, None}
+use Rattle.std.specs.Prelude.{◌≡◌, ◌≢◌, ◌<◌, ℕ, Bool, List, [], ◌∷◌, ◌++◌, codes, Result}
 use Rattle.std.specs.List.{AllByRecursion}
 use Rattle.clause_base.specs.Formula.{Cnf, IsModel, IsUnsatisfiable, assignment_of}
 use Rattle.sat_text.specs.Dimacs.{formula_text}
@@ -28,8 +28,9 @@ use Rattle.requests.specs.declared.request.Stepping.TheVariants.{Exists, All}
 use Rattle.plan_endings.specs.declared.ending.Ending.{Ending}
 use Rattle.plan_endings.specs.declared.ending.Ending.TheVariants.{Listing, TooLarge, ReadFault, NotEmpty}
 use Rattle.plan_endings.specs.declared.ending.File.TheVariants.{Proof}
-use Rattle.input_files.specs.declared.stop.Stop.{Stop}
-use Rattle.input_files.specs.declared.stop.Stop.TheVariants.{Ends, Memory}
+use Rattle.plan_endings.specs.Ends as ends
+use Rattle.plan_endings.specs.declared.stop.Stop.{Stop}
+use Rattle.plan_endings.specs.declared.stop.Stop.TheVariants.{Ends, Memory}
 use Rattle.plan_tasks.specs.Stepping.{places_by, is_plan_by}
 use Rattle.plan_tasks.specs.Tasks.{AreTask, IsReady, StopsTask}
 use Rattle.judge_top.specs.declared.ended.Ended.{Ended}
@@ -39,17 +40,9 @@ use Rattle.judge_top.specs.declared.model.Given.TheVariants as given
 use Rattle.judge_top.specs.declared.model.Told.{Told}
 use Rattle.judge_top.specs.declared.model.Told.TheVariants as told
 
--- the ending, answered or handed on as one of the planner's, is of this kind; of want of memory nothing is said
+-- the ending, answered or handed on as one that all programs have, is of this kind; of want of memory nothing is said
 abbrev pub EndsWith : (Ended → Type 0) → Result Ended Stop → Type 0
-EndsWith claim (Ok end) = claim end
-EndsWith claim (Err (Ends end)) = claim (Plain end)
-EndsWith claim (Err Memory) = Unit {0}
-
--- the ending, if there is one
-abbrev pub end_in : Result Ended Stop → Option Ended
-end_in (Ok end) = Some end
-end_in (Err (Ends end)) = Some (Plain end)
-end_in (Err Memory) = None
+EndsWith claim result = ends.EndsWith Plain claim result
 
 -- a formula, of this horizon, has too many literals, of which the ending tells
 abbrev pub IsTooMany : Cnf → ℕ → Ending → Type 0

@@ -1,5 +1,5 @@
 -- The exit status and the text of each ending of the judge.
-use Rattle.std.specs.Prelude.{ℕ, ◌+◌, List, [], ◌∷◌, ◌++◌, codes, decimal}
+use Rattle.std.specs.Prelude.{ℕ, ◌+◌, ◌<◌, ◌^◌, Bool, true, false, List, [], ◌∷◌, ◌++◌, codes, decimal}
 use Rattle.report_lines.specs.Lines.{joined}
 use Rattle.plan_endings.specs.Ending as plain
 use Rattle.judge_top.specs.declared.ended.Ended.{Ended}
@@ -28,3 +28,20 @@ text_of (NoModel clause) = joined ((codes "; no model clause " ++ decimal (claus
 text_of (NoText at) = joined ((codes "; refused syntax model " ++ decimal at) ∷ [])
 text_of Unread = joined (codes "; read fault model" ∷ [])
 text_of Usage = joined (codes "; usage: formula, judge or model" ∷ [])
+
+-- the text due is there: it was made, or is always the same
+abbrev pub is_there : Ended → Bool
+is_there (Plain end) = plain.is_there end
+is_there Unread = true
+is_there Usage = true
+is_there _ = false
+
+-- a place or a count of a line is a number of the program
+abbrev pub IsSmall : Ended → Type 0
+IsSmall (Plain end) = plain.IsSmall end
+IsSmall (Refuted horizon entries) = (horizon < 2 ^ 64) × (entries < 2 ^ 64)
+IsSmall (Rejected line) = line < 2 ^ 64
+IsSmall (Syntax at) = at < 2 ^ 64
+IsSmall (NoModel clause) = clause + 1 < 2 ^ 64
+IsSmall (NoText at) = at < 2 ^ 64
+IsSmall _ = Unit {0}

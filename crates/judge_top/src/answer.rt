@@ -2,7 +2,7 @@
 ghost use Rattle.std.specs.Prelude.{◌≡◌, ◌≤◌, length, IfOk};
 ghost use Rattle.input_files.specs.Limits.{most_bytes};
 ghost use Rattle.pl_io.specs.Tape.{IsAtFront};
-ghost use Rattle.input_files.specs.Ends.{OnlyMemory};
+ghost use Rattle.plan_endings.specs.Ends.{OnlyMemory};
 ghost use Rattle.judge_top.specs.Answers.{EndsWith, tape_run, OnceReady, AnswersFormula, AnswersJudge, AnswersModel, IsBelow, IsSmallTold, ended_by, ended_with};
 
 use crate::Ended;
@@ -10,10 +10,10 @@ use crate::formula::formula_by;
 use crate::model::{Told, told_by};
 use crate::told::{told, word_of};
 use crate::verdict::verdict_on;
-use input_files::stop::Stop;
 use lrat_judge::verdict::Verdict;
 use pl_io::{Bytes, Tape};
 use plan_endings::Ending;
+use plan_endings::stop::Stop;
 use plan_report::plan_text;
 use plan_tasks::ready::{Ready, read_ready};
 use requests::Stepping;

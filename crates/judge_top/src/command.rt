@@ -11,7 +11,7 @@ use std::alloc::{AllocError, Global};
 
 /// The commands, by the word that names each.
 #[derive(Clone, Copy)]
-pub(crate) enum Name {
+pub enum Name {
     Formula,
     Judge,
     Model,
@@ -50,7 +50,7 @@ fn word_for(name: Name) -> &'static str
 }
 
 /// The command of this name.
-pub(crate) fn command_for<'a>(
+pub(crate) fn command_by<'a>(
     alloc: Global,
     name: Name,
     by: ValueParser<'a>,

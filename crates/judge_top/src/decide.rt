@@ -10,12 +10,12 @@ ghost use Rattle.judge_top.specs.Causes.{Answers, OfModel, ComesFor, Comes, name
 
 use crate::answer::{answer_formula, answer_judge, answer_model};
 use crate::verdict::open;
-use crate::{Ended, Request, read_words};
+use crate::{Ended, Request};
 use input_files::parts::two_of;
-use input_files::stop::Stop;
 use input_files::take::take_all;
 use pl_io::{Bytes, Shelf, TakeError, Tape};
-use requests::Stepping;
+use plan_endings::stop::Stop;
+use requests::{Stepping, read_words};
 use std::alloc::Global;
 use std::thread::Threads;
 

@@ -1,14 +1,13 @@
 //! How a run of the judge ends: each ending has an exit status and a text.
 //!
 //! ```text
-//! let status = written(alloc, Ended::Rejected { line: 3 }, &mut sink);    // `; rejected line 3`, with status 1
+//! let status = finish(alloc, Ok(Ended::Rejected { line: 3 }), &mut sink);    // `; rejected line 3`, with status 1
 //! ```
-ghost use Rattle.std.specs.Prelude.{◌≡◌, IfOk, IsOk};
-ghost use Rattle.plan_endings.specs.Ending.{bytes_of};
-ghost use Rattle.judge_top.specs.Ended.{status_of, text_of};
+ghost use Rattle.judge_top.specs.Ended.{status_of, text_of, is_there, IsSmall};
+ghost use Rattle.judge_top.specs.declared.ended.Ended.TheVariants as ended;
 
 use pl_io::Memory;
-use plan_endings::{Due, Ending, of_number, of_numbers};
+use plan_endings::{Due, Ending, RunEnd, of_number, of_numbers};
 use std::alloc::Global;
 
 /// How a run of the judge ends, but for want of memory and a write fault.
@@ -36,11 +35,22 @@ pub enum Ended {
     Usage,
 }
 
-impl Ended {
-    /// The exit status.
-    pub fn status(&self) -> u8
-        ensures { result ≡ status_of self.now }
-    {
+impl RunEnd for Ended {
+    ghost status_of = { status_of };
+
+    ghost text_of = { text_of };
+
+    ghost is_there = { is_there };
+
+    ghost is_small = { IsSmall };
+
+    ghost plain = { ended.Plain };
+
+    fn of_plain(ending: Ending) -> Ended {
+        Ended::Plain(ending)
+    }
+
+    fn status(&self) -> u8 {
         match self {
             Ended::Plain(ending) => ending.status(),
             Ended::Refuted { .. } => 0,
@@ -52,11 +62,7 @@ impl Ended {
         }
     }
 
-    /// The text due, made whole. A text that is always the same takes no memory.
-    pub fn text(self, alloc: Global) -> Result<Due, Memory>
-        ensures text { IfOk result (λ due. bytes_of due ≡ text_of self) }
-        ensures usage { self ≡ Ended.Usage → IsOk result }
-    {
+    fn text(self, alloc: Global) -> Result<Due, Memory> {
         match self {
             Ended::Plain(ending) => ending.text(alloc),
             Ended::Refuted { horizon, entries } => {

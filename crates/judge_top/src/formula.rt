@@ -2,7 +2,7 @@
 ghost use Rattle.std.specs.Prelude.{◌≡◌, ◌≤◌, ◌<◌, ℕ, List, IfOk};
 ghost use Rattle.clause_base.specs.Formula.{IsUnsatisfiable};
 ghost use Rattle.step_encoding.specs.{Limits.most_literals, Numbers.literals_of};
-ghost use Rattle.input_files.specs.Ends.{StopsBy};
+ghost use Rattle.plan_endings.specs.Ends.{StopsBy};
 ghost use Rattle.plan_tasks.specs.Stepping.{places_by, is_plan_by};
 ghost use Rattle.judge_top.specs.Answers.{OfKnown, IsFormula, IsTooMany, TellsTooMany};
 
@@ -10,8 +10,8 @@ use action_order::publish::publish;
 use all_steps::form::BothWays;
 use clause_base::formula::Formula;
 use gt_core::task::Task;
-use input_files::stop::Stop;
 use plan_endings::Ending;
+use plan_endings::stop::Stop;
 use requests::Stepping;
 use std::alloc::Global;
 use std::thread::Threads;

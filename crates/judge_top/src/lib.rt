@@ -21,10 +21,8 @@ mod told;
 mod top;
 mod values;
 mod verdict;
-mod written;
 
 pub use ended::Ended;
 pub use plan_endings::Status;
-pub use read::read_words;
 pub use request::Request;
 pub use top::judge;

@@ -3,7 +3,7 @@ ghost use Rattle.std.specs.Prelude.{◌≡◌, ◌≤◌, ◌<◌, ℕ, [], leng
 ghost use Rattle.clause_base.specs.Formula.{IsModel};
 ghost use Rattle.pl_io.specs.Outside.{Rose};
 ghost use Rattle.pl_io.specs.Tape.{IsAtFront};
-ghost use Rattle.input_files.specs.Ends.{StopsBy};
+ghost use Rattle.plan_endings.specs.Ends.{StopsBy};
 ghost use Rattle.plan_tasks.specs.Stepping.{places_by};
 ghost use Rattle.step_encoding.specs.{Limits.most_literals, Numbers.literals_of};
 ghost use Rattle.sat_text.specs.Values.{Values as values_read};
@@ -16,8 +16,8 @@ use all_steps::form::BothWays;
 use clause_base::formula::Formula;
 use containers::memory::Memory;
 use gt_core::task::Task;
-use input_files::stop::Stop;
 use pl_io::{Reading, TakeError, Tape};
+use plan_endings::stop::Stop;
 use requests::Stepping;
 use sat_text::first_false::first_false;
 use sat_text::value_reader::Reader;

@@ -1,59 +1,70 @@
 //! What the words of a command line ask of the judge.
 //!
-//! The first word names a command, and `clap` reads it and the rest as one simple command of that name. The range of each number comes
-//! from the reader that `clap` ran, and is not tested again:
-//!
 //! ```text
-//! match read_words(alloc, words)? {
+//! match read_words::<Request>(alloc, words)? {
 //!     Some(Request::Formula { domain, problem, horizon, stepping }) => ..,
 //!     Some(Request::Judge { domain, problem, horizon, proof, stepping }) => ..,
 //!     Some(Request::Model { domain, problem, horizon, model, stepping }) => ..,
 //!     None => usage(),
 //! }
 //! ```
-ghost use Rattle.std.specs.Prelude.{◌≡◌, ◌≤◌, IfOk, IfSome, Ok, None, map, string_bytes, option_map};
-ghost use Rattle.judge_top.specs.Requested.{requested, requested_of, command_named};
-ghost use Rattle.judge_top.specs.Seen.{seen, horizon_of};
+ghost use Rattle.std.specs.Prelude.{◌≡◌, ◌≤◌, IfOk, IfSome, List, codes, option_map};
+ghost use Rattle.clap.specs.Walk.{Row};
+ghost use Rattle.clap.specs.Words.{app_of, found_of, rows_of};
+ghost use Rattle.requests.specs.Fit.{IsFit};
+ghost use Rattle.requests.specs.Passed.{HasNumber, Passed};
+ghost use Rattle.requests.specs.Same.{IsSame};
+ghost use Rattle.judge_top.specs.Command.{command_of, named, steps_list};
+ghost use Rattle.judge_top.specs.Requested.{some_in};
+ghost use Rattle.judge_top.specs.Seen.{Seen, seen, horizon_of};
 
-use crate::command::{Name, command_for, name_of, steps_reader};
+use crate::command::{Name, command_by, name_of, steps_reader};
 use crate::request::Request;
 use crate::values::request_in;
-use requests::{Memory, parse};
-use std::alloc::Global;
+use clap::{ArgMatches, Command};
+use requests::{Asked, Memory};
+use std::alloc::{AllocError, Global};
 
-/// What the words after the program's name ask for; `None` exactly where they are not taken.
-pub fn read_words<'a>(alloc: Global, words: &'a [String]) -> Result<Option<Request<'a>>, Memory>
-    ensures request { IfOk result (λ r. option_map seen r ≡ requested (map string_bytes words.entry.now)) }
-    // The horizon is in its range.
-    ensures sized { IfOk result (λ o. IfSome o (λ r. horizon_of (seen r) ≤ 255)) }
-    // Where the first word names no command there is no other answer.
-    ensures no_command { command_named (map string_bytes words.entry.now) ≡ None → result ≡ Ok None }
-{
-    let Some(first) = words.first() else {
-        return Ok(None);
-    };
-    match name_of(first.as_str()) {
-        Some(name) => read_command(alloc, name, words),
-        None => Ok(None),
+impl<'a> Asked<'a> for Request<'a> {
+    type Name = Name;
+
+    ghost Seen = { Seen };
+
+    ghost seen = { seen };
+
+    ghost is_sized = { λ request. horizon_of request ≤ 255 };
+
+    ghost named = { named };
+
+    ghost command = { command_of steps_list };
+
+    ghost has_values = { λ _ rows. HasNumber 0 255 (codes "horizon") rows };
+
+    ghost seen_in = { some_in };
+
+    fn name_of(word: &str) -> Option<Name>
+        ensures { result ≡ named word.now }
+    {
+        name_of(word)
     }
-}
 
-// The same of the command of this name.
-fn read_command<'a>(
-    alloc: Global,
-    name: Name,
-    words: &'a [String],
-) -> Result<Option<Request<'a>>, Memory>
-    ensures request { IfOk result (λ r. option_map seen r ≡ requested_of name (map string_bytes words.entry.now)) }
-    ensures sized { IfOk result (λ o. IfSome o (λ r. horizon_of (seen r) ≤ 255)) }
-{
-    let by = steps_reader();
-    let Ok(command) = command_for(alloc, name, by) else {
-        return Err(Memory);
-    };
-    match parse(command, words) {
-        Ok(Some(matches)) => Ok(Some(request_in(name, &matches))),
-        Ok(None) => Ok(None),
-        Err(error) => Err(error),
+    fn command_for(alloc: Global, name: Name) -> Result<Command<'a>, AllocError>
+        ensures fit { IfOk result (λ c. IsFit (app_of c)) }
+        ensures same { IfOk result (λ c. IsSame (app_of c) (command_of steps_list name)) }
+        ensures values { IfOk result (λ c. (rows : List Row) → Passed (app_of c).top.rules rows → HasNumber 0 255 (codes "horizon") rows) }
+    {
+        command_by(alloc, name, steps_reader())
+    }
+
+    fn request_in(
+        alloc: Global,
+        name: Name,
+        matches: &ArgMatches<'a>,
+    ) -> Result<Option<Request<'a>>, Memory>
+        requires { HasNumber 0 255 (codes "horizon") (rows_of (found_of matches.now)) }
+        ensures value { IfOk result (λ o. option_map seen o ≡ some_in name (rows_of (found_of matches.now))) }
+        ensures sized { IfOk result (λ o. IfSome o (λ r. horizon_of (seen r) ≤ 255)) }
+    {
+        Ok(Some(request_in(name, matches)))
     }
 }

@@ -1,12 +1,12 @@
 //! The text of a formula.
 ghost use Rattle.std.specs.Prelude.{◌≡◌, IfOk};
 ghost use Rattle.sat_text.specs.Dimacs.{formula_text};
-ghost use Rattle.input_files.specs.Ends.{OnlyMemory};
+ghost use Rattle.plan_endings.specs.Ends.{OnlyMemory};
 ghost use Rattle.judge_top.specs.Answers.{word_of};
 
 use clause_base::formula::Formula;
-use input_files::stop::Stop;
 use pl_io::Bytes;
+use plan_endings::stop::Stop;
 use requests::Stepping;
 use sat_text::dimacs::Text;
 use std::alloc::Global;

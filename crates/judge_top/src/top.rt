@@ -9,15 +9,13 @@ ghost use Rattle.judge_top.specs.Requested.{requested, command_named};
 ghost use Rattle.judge_top.specs.Seen.{formulas, judges, models};
 ghost use Rattle.judge_top.specs.Ended.{status_of, text_of};
 ghost use Rattle.judge_top.specs.declared.ended.Ended.{Ended};
-ghost use Rattle.judge_top.specs.Answers.{end_in, tape_run};
+ghost use Rattle.judge_top.specs.Answers.{tape_run};
 ghost use Rattle.judge_top.specs.Causes.{Comes, OfTaken, HasFault, names_in};
 ghost use Rattle.judge_top.specs.Headline.{IsProvedNone, PlanRunsIn, TellsFormula, OfVerdict, IsAccepted, IsRejected, IsNoProof, TellsModel, TellsNoModel, TellsNoText, OrNoTask};
 
 use crate::decide::decide;
-use crate::written::written;
-use crate::{Ended, Status};
-use input_files::stop::Stop;
 use pl_io::{Shelf, Sink, Tape};
+use plan_endings::{Status, finish};
 use std::alloc::Global;
 use std::thread::Threads;
 
@@ -126,31 +124,4 @@ pub fn judge<H: Threads + Sync, S: Shelf, T: Tape, K: Sink>(
 {
     plan_tasks::laws::laws();
     finish(alloc, decide(rt, alloc, words, shelf, tape), sink)
-}
-
-// Writes the text of an ending, answered or handed on.
-fn finish<K: Sink>(alloc: Global, decided: Result<Ended, Stop>, sink: &mut K) -> Status
-    requires { (end : Ended) → end_in decided ≡ Some end → (status_of end ≢ 6) × (status_of end ≢ 8) }
-    ensures due { result.0 ≢ 6 → result.0 ≢ 8 → (end : Ended) × (result.0 ≡ status_of end) × (end_in decided ≡ Some end) × (K.taken sink.new ≡ appended (K.taken sink.old) (text_of end)) }
-    ensures write_fault { result.0 ≡ 6 → Rose (K.faults sink.old) (K.faults sink.new) }
-    ensures front { result.0 ≢ 8 → (end : Ended) × (end_in decided ≡ Some end) × TakesFront (K.taken sink.old) (K.taken sink.new) (text_of end) }
-    ensures nothing { result.0 ≡ 8 → sink.new ≡ sink.old }
-    ensures usage { end_in decided ≡ Some Ended.Usage → result.0 ≢ 8 }
-    ensures faults { K.faults sink.old ≤ K.faults sink.new }
-{
-    let Some(end) = end_of(decided) else {
-        return Status(8);
-    };
-    written(alloc, end, sink)
-}
-
-// The ending, answered or handed on; none for want of memory.
-fn end_of(answer: Result<Ended, Stop>) -> Option<Ended>
-    ensures { result ≡ end_in answer }
-{
-    match answer {
-        Ok(end) => Some(end),
-        Err(Stop::Ends(end)) => Some(Ended::Plain(end)),
-        Err(Stop::Memory) => None,
-    }
 }

@@ -3,14 +3,14 @@ ghost use Rattle.std.specs.Prelude.{◌≡◌, ◌≤◌, ◌<◌, ℕ, [], leng
 ghost use Rattle.clause_base.specs.Formula.{IsUnsatisfiable};
 ghost use Rattle.pl_io.specs.Outside.{Rose};
 ghost use Rattle.pl_io.specs.Tape.{IsAtFront, given_opened, given_more};
-ghost use Rattle.input_files.specs.Ends.{StopsBy};
+ghost use Rattle.plan_endings.specs.Ends.{StopsBy};
 ghost use Rattle.judge_top.specs.Answers.{IsUnread, IsVerdictOn, stop_of};
 
 use clause_base::formula::Formula;
-use input_files::stop::Stop;
 use lrat_judge::judge::Judge;
 use lrat_judge::verdict::Verdict;
 use pl_io::{TakeError, Tape};
+use plan_endings::stop::Stop;
 use plan_endings::{Ending, File};
 use std::alloc::Global;
 

@@ -3,6 +3,7 @@ ghost use Rattle.std.specs.Prelude.{◌≡◌, ◌<◌, ◌^◌, ◌∷◌, ◌+
 ghost use Rattle.report_lines.specs.Lines.{joined};
 ghost use Rattle.plan_endings.specs.Ending.{status_of_race, status_of, text_of, bytes_of, word_of, kind_word, limit_word, is_there, IsSmall};
 
+use crate::run_end::RunEnd;
 use pl_io::{Bytes, Memory};
 use report_lines::push_number;
 use std::alloc::Global;
@@ -117,11 +118,22 @@ impl Outcome {
     }
 }
 
-impl Ending {
-    /// The exit status.
-    pub fn status(&self) -> u8
-        ensures { result ≡ status_of self.now }
-    {
+impl RunEnd for Ending {
+    ghost status_of = { status_of };
+
+    ghost text_of = { text_of };
+
+    ghost is_there = { is_there };
+
+    ghost is_small = { IsSmall };
+
+    ghost plain = { λ end. end };
+
+    fn of_plain(ending: Ending) -> Ending {
+        ending
+    }
+
+    fn status(&self) -> u8 {
         match self {
             Ending::Report { outcome, .. } => outcome.status(),
             Ending::Listing(_) | Ending::Reaches | Ending::Accepted { .. } => 0,
@@ -136,12 +148,7 @@ impl Ending {
         }
     }
 
-    /// The text due, made whole. One that was made before, or is always the same, takes no memory.
-    pub fn text(self, alloc: Global) -> Result<Due, Memory>
-        ensures text { IfOk result (λ due. bytes_of due ≡ text_of self) }
-        ensures small { OnOk result (IsSmall self) }
-        ensures there { IsTrue (is_there self) → IsOk result }
-    {
+    fn text(self, alloc: Global) -> Result<Due, Memory> {
         match self {
             Ending::Report { text, .. } => Ok(Due::Made(text)),
             Ending::Listing(text) => Ok(Due::Made(text)),

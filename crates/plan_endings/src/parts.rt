@@ -4,7 +4,7 @@ ghost use Rattle.report_lines.specs.Lines.{joined};
 ghost use Rattle.plan_endings.specs.Ending.{text_of, problem_line, batch_of};
 ghost use Rattle.plan_endings.specs.Growing.{Has};
 
-use crate::Ending;
+use crate::{Ending, RunEnd};
 use pl_io::{Bytes, Memory};
 use report_lines::push_number;
 use std::alloc::Global;

@@ -9,6 +9,7 @@ ghost use Rattle.std.specs.Prelude.{◌≡◌, IsErr};
 ghost use Rattle.std.specs.Process.{exit_status};
 
 use pl_io::{FileShelf, OutSink};
+use plan_endings::{NO_WORDS, words_of};
 use plan_top::run;
 use poll_run::BlockOn;
 use solver_pool::OpenGate;
@@ -21,10 +22,6 @@ use std::rt::Files;
 use std::sync::Wait;
 use std::thread::Threads;
 
-/// The exit status where the system does not give the words, also for want of memory to hold them; the top call never
-/// answers it.
-const NO_WORDS: u8 = 9;
-
 /// Runs the planner on the words that the system gives, of which the first names the program.
 fn run_program<H: Files + Print + Threads + Wait + Sync + RandomSource + AllocGlobal>(
     rt: &H,
@@ -33,10 +30,7 @@ fn run_program<H: Files + Print + Threads + Wait + Sync + RandomSource + AllocGl
 ) -> ExitCode
     ensures no_words { IsErr given → exit_status result ≡ 9 }
 {
-    let Ok(given) = given else {
-        return ExitCode::from(NO_WORDS);
-    };
-    let Ok(words) = given.skip(1).collect::<Vec<String>>(alloc) else {
+    let Some(words) = words_of(alloc, given) else {
         return ExitCode::from(NO_WORDS);
     };
     let mut shelf = FileShelf::new(rt, alloc);

@@ -1,4 +1,3 @@
 pub mod Claims
 pub mod Printing
-pub mod Statuses
 pub mod TellingPlans

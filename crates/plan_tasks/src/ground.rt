@@ -3,11 +3,11 @@ ghost use Rattle.std.specs.Prelude.{◌≡◌, IfOk};
 ghost use Rattle.grounding_defs.specs.Grounded.{IsGrounded};
 ghost use Rattle.grounding_defs.specs.Limits.{IsWithin};
 ghost use Rattle.plan_tasks.specs.Tasks.{TellsOver};
-ghost use Rattle.input_files.specs.Ends.{StopsBy};
+ghost use Rattle.plan_endings.specs.Ends.{StopsBy};
 
 use grounder::{GroundError, Grounded, ground};
-use input_files::stop::Stop;
 use pd_model::Pddl;
+use plan_endings::stop::Stop;
 use plan_endings::{Ending, Limit};
 use std::alloc::Global;
 

@@ -1,17 +1,18 @@
 //! Reading and grounding the task that two files say.
 ghost use Rattle.std.specs.Prelude.{◌≤◌, ℕ, List, length, IsTrue, IfOk};
 ghost use Rattle.pd_sexp.specs.{Fault.Reads, View.view, Word.has_words};
-ghost use Rattle.input_files.specs.{Limits.most_bytes, Ends.StopsBy};
+ghost use Rattle.input_files.specs.Limits.{most_bytes};
+ghost use Rattle.plan_endings.specs.Ends.{StopsBy};
 ghost use Rattle.plan_tasks.specs.Tasks.{AreTask, IsReady, StopsTask};
 
 use crate::ground::ground_task;
 use crate::task::{task_with, tree_of};
 use containers::let_go;
 use grounder::Grounded;
-use input_files::stop::Stop;
 use pd_model::Pddl;
 use pd_sexp::Tree;
 use plan_endings::File;
+use plan_endings::stop::Stop;
 use std::alloc::Global;
 
 /// A task, and what it is grounded to.

@@ -5,12 +5,12 @@ ghost use Rattle.pd_model.specs.WellFormed.{IsWellFormed};
 ghost use Rattle.pd_task.specs.Reading.{reading};
 ghost use Rattle.input_files.specs.Limits.{most_bytes};
 ghost use Rattle.plan_tasks.specs.Tasks.{AreTask, input_of, RefusesTask, RefusesTree, RefusesTrees, IsReading};
-ghost use Rattle.input_files.specs.Ends.{StopsBy, OnlyMemory};
+ghost use Rattle.plan_endings.specs.Ends.{StopsBy, OnlyMemory};
 
-use input_files::stop::{Stop, refuse};
 use pd_model::{Pddl, Which};
 use pd_sexp::{Tree, TreeError, read_tree};
 use pd_task::{PddlError, read_pddl};
+use plan_endings::stop::{Stop, refuse};
 use plan_endings::{File, Kind};
 use std::alloc::Global;
 

@@ -54,7 +54,7 @@ use Rattle.plan_endings.specs.Ending.{status_of, status_of_race, text_of, greate
 use Rattle.plan_claims.specs.Headline.{Printed, OfFiles, OfThreeFiles, OfPlans, PlanRuns, EveryOrderRuns, HasAtLeast, HasPlanOf, TellsExhausted, NoStepPlan, NoPlan, LineIsSo, SpendsAll, PartIsSo, Certifies, CertifiesNothing, ProvesNone, TellsGround, TellsOrder, AreCallsOfPlan, AreCallsOfNoPlan}
 use Rattle.plan_claims.specs.Laws.{Laws}
 use Rattle.plan_claims.proofs.published.Claims as claims
-use Rattle.plan_tasks.proofs.published.Statuses.{six_seven, six_seven_eight}
+use Rattle.plan_endings.proofs.published.Statuses.{six_seven, six_seven_eight}
 use Rattle.plan_top.proofs.Told.{asked_comes, asked_parts, not_asked_comes}
 use Rattle.plan_top.proofs.Reports.{is_stop, stop_says_nothing, printed_is, printed_front, nothing_said}
 use Rattle.plan_claims.proofs.published.Verdicts.{reaches_is_plan, plan_reaches}

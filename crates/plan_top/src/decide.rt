@@ -6,15 +6,15 @@ ghost use Rattle.requests.specs.Requested.{requested, command_named};
 ghost use Rattle.requests.specs.Seen.{IsSized, files_of, seen};
 ghost use Rattle.input_files.specs.Files.{NotesAmong};
 ghost use Rattle.plan_top.specs.Causes.{Comes, AskForBatch, names_in};
-ghost use Rattle.input_files.specs.Ends.{EndsAs};
+ghost use Rattle.plan_endings.specs.Ends.{EndsAs};
 
 use crate::Ending;
 use crate::batch::answer_batch;
 use commands::answer::answer;
 use input_files::first::take_first;
-use input_files::stop::Stop;
 use input_files::take::take_all;
 use pl_io::{Bytes, Shelf};
+use plan_endings::stop::Stop;
 use poll_batch::Driver;
 use requests::{Request, read_words};
 use solver_pool::Gate;

@@ -5,14 +5,14 @@ ghost use Rattle.pd_sexp.specs.{Fault.Reads, View.view, Word.has_words};
 ghost use Rattle.input_files.specs.Limits.{most_bytes};
 ghost use Rattle.commands.specs.Tasks.{IsReading};
 ghost use Rattle.plan_top.specs.own.Parts.{IsShort, IsFirst, HasWords, EndsAlone, IsRunOf, IsPart, ArePrepared};
-ghost use Rattle.input_files.specs.Ends.{OnlyMemory};
+ghost use Rattle.plan_endings.specs.Ends.{OnlyMemory};
 ghost use Rattle.plan_endings.specs.declared.ending.Ending.{Ending};
 
 use crate::{Ending, File};
 use commands::raced::{Known, known_of};
-use input_files::stop::Stop;
 use pd_sexp::Tree;
 use pl_io::Bytes;
+use plan_endings::stop::Stop;
 use plan_tasks::ready::{Ready, ready_with};
 use plan_tasks::task::{Reading, reading_of};
 use std::alloc::Global;

@@ -3,11 +3,11 @@ ghost use Rattle.std.specs.Prelude.{◌≡◌, ◌≤◌, ◌<◌, length, IfOk}
 ghost use Rattle.std.specs.List.{AllByRecursion, AllZip};
 ghost use Rattle.poll_batch.specs.Batch.{IsOrder};
 ghost use Rattle.plan_top.specs.own.Parts.{IsSound, IsFormOf, IsRaceOf, CameTo, turn_at};
-ghost use Rattle.input_files.specs.Ends.{OnlyMemory};
+ghost use Rattle.plan_endings.specs.Ends.{OnlyMemory};
 
 use crate::parts::Run;
 use horizon_rates::Settings;
-use input_files::stop::Stop;
+use plan_endings::stop::Stop;
 use poll_batch::{Driver, Ends, PollRace, Races, batch_race};
 use requests::Turns;
 use std::alloc::Global;

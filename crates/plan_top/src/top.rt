@@ -11,21 +11,18 @@ ghost use Rattle.requests.specs.Requested.{requested, command_named};
 ghost use Rattle.input_files.specs.Files.{NotesAmong};
 ghost use Rattle.plan_top.specs.Causes.{Comes, IsBatchOf, ArePartsSo, HasRead, AskForBatch, FaultOf, names_in};
 ghost use Rattle.plan_top.specs.Complete.{GoesWell, IsGood};
-ghost use Rattle.plan_endings.specs.Ending.{status_of, text_of, greatest, parts_text, IsSmall};
+ghost use Rattle.plan_endings.specs.Ending.{status_of, text_of, greatest, parts_text};
 ghost use Rattle.plan_claims.specs.Headline.{Printed, OfFiles, OfThreeFiles, OfPlans, PlanRuns, EveryOrderRuns, HasAtLeast, HasPlanOf, TellsExhausted, NoStepPlan, NoPlan, LineIsSo, SpendsAll, Certifies, CertifiesNothing, ProvesNone, TellsGround, TellsOrder, AreCallsOfPlan, AreCallsOfNoPlan};
 ghost use Rattle.plan_top.specs.OneReport.{AskForOne, AskForOnePart, AskToVerify, AskToProve};
-ghost use Rattle.input_files.specs.Ends.{ending_in};
 ghost use Rattle.plan_endings.specs.declared.ending.Ending.{Ending};
 ghost use Rattle.plan_endings.specs.declared.ending.Ending.TheVariants.{Listing, Report, TooLong};
 ghost use Rattle.plan_endings.specs.declared.ending.File.TheVariants.{Proof};
 ghost use Rattle.plan_endings.specs.declared.ending.Outcome.{Outcome};
 
 use crate::decide::decide;
-use crate::{Ending, Status};
-use input_files::stop::Stop;
 use pl_io::{Shelf, Sink};
 use plan_claims::laws::laws;
-use plan_endings::written::written;
+use plan_endings::{Status, finish};
 use poll_batch::Driver;
 use solver_pool::Gate;
 use std::alloc::Global;
@@ -201,31 +198,4 @@ pub fn run<H: Threads + Wait + Sync, S: Shelf, K: Sink, G: Gate, D: Driver>(
 {
     laws();
     finish(alloc, decide(rt, alloc, words, shelf, gate, driver), sink)
-}
-
-// Writes the text of an ending, answered or handed on.
-fn finish<K: Sink>(alloc: Global, decided: Result<Ending, Stop>, sink: &mut K) -> Status
-    requires { (end : Ending) → ending_in decided ≡ Some end → (status_of end ≢ 6) × (status_of end ≢ 8) }
-    ensures due { result.0 ≢ 6 → result.0 ≢ 8 → (end : Ending) × (result.0 ≡ status_of end) × (ending_in decided ≡ Some end) × (K.taken sink.new ≡ appended (K.taken sink.old) (text_of end)) }
-    ensures write_fault { result.0 ≡ 6 → Rose (K.faults sink.old) (K.faults sink.new) }
-    ensures front { result.0 ≢ 8 → (end : Ending) × (ending_in decided ≡ Some end) × IsSmall end × TakesFront (K.taken sink.old) (K.taken sink.new) (text_of end) }
-    ensures nothing { result.0 ≡ 8 → sink.new ≡ sink.old }
-    ensures usage { ending_in decided ≡ Some Ending.Usage → result.0 ≢ 8 }
-    ensures faults { K.faults sink.old ≤ K.faults sink.new }
-{
-    let Some(ending) = ended(decided) else {
-        return Status(8);
-    };
-    written(alloc, ending, sink)
-}
-
-/// The ending, answered or handed on; none for want of memory.
-fn ended(answer: Result<Ending, Stop>) -> Option<Ending>
-    ensures { result ≡ ending_in answer }
-{
-    match answer {
-        Ok(ending) => Some(ending),
-        Err(Stop::Ends(ending)) => Some(ending),
-        Err(Stop::Memory) => None,
-    }
 }

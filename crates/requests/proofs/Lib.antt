@@ -2,6 +2,7 @@ mod Fit
 mod SameReaders
 mod Numbers
 pub mod Chain
+pub mod Commands
 mod Arguments
 mod PassedReaders
 mod NoFault

@@ -1,4 +1,5 @@
 pub mod Among
+pub mod Asked
 pub mod OneTask
 pub mod Requested
 pub mod Seen

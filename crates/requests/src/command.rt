@@ -12,7 +12,7 @@ use std::alloc::{AllocError, Global};
 
 /// The commands, by the word that names each.
 #[derive(Clone, Copy)]
-pub(crate) enum Name {
+pub enum Name {
     Plan(Stepping),
     Check,
     Ground,
@@ -194,7 +194,7 @@ fn word_for(name: Name) -> &'static str
 }
 
 /// The command of this name.
-pub(crate) fn command_for<'a>(
+pub(crate) fn command_by<'a>(
     alloc: Global,
     name: Name,
     by: Readers<'a>,

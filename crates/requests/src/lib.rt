@@ -14,6 +14,7 @@
 //! A command line is read in one [`parse`] by `clap`, for commands that are made of [`Argument`]s.
 #![tactic(auto)]
 
+pub mod asked;
 mod building;
 mod command;
 pub mod laws;
@@ -23,8 +24,8 @@ mod read;
 mod request;
 mod values;
 
+pub use asked::{Asked, read_words};
 pub use building::{Argument, put, with_all};
 pub use parsed_values::{number, text, texts};
 pub use parsing::{Memory, parse};
-pub use read::read_words;
 pub use request::{Problems, Request, Show, Stepping, Turns};

@@ -1,48 +1,63 @@
-//! Reading words.
-ghost use Rattle.std.specs.Prelude.{◌≡◌, IfOk, IfSome, Ok, None, map, string_bytes, option_map};
-ghost use Rattle.requests.specs.Requested.{requested, requested_of, command_named};
-ghost use Rattle.requests.specs.Seen.{seen, IsSized};
+//! Reading the words of the planner.
+ghost use Rattle.std.specs.Prelude.{◌≡◌, IfOk, IfSome, List, option_map};
+ghost use Rattle.clap.specs.Walk.{Row};
+ghost use Rattle.clap.specs.Words.{app_of, found_of, rows_of};
+ghost use Rattle.requests.specs.Command.{command_of, lists, named};
+ghost use Rattle.requests.specs.Fit.{IsFit};
+ghost use Rattle.requests.specs.Passed.{Passed};
+ghost use Rattle.requests.specs.own.Ranges.{Has};
+ghost use Rattle.requests.specs.Same.{IsSame};
+ghost use Rattle.requests.specs.Requested.{counted_in};
+ghost use Rattle.requests.specs.Seen.{IsSized, Seen, seen};
 
-use crate::command::{Name, command_for, lists_of_words, name_of};
+use crate::Memory;
+use crate::asked::Asked;
+use crate::command::{Name, command_by, lists_of_words, name_of};
 use crate::request::Request;
 use crate::values::request_in;
-use crate::{Memory, parse};
-use std::alloc::Global;
+use clap::{ArgMatches, Command};
+use std::alloc::{AllocError, Global};
 
-/// What the words after the program's name ask for; `None` exactly where they are not taken. A batch of more than 16
-/// problems is not taken.
-pub fn read_words<'a>(alloc: Global, words: &'a [String]) -> Result<Option<Request<'a>>, Memory>
-    ensures request { IfOk result (λ r. option_map seen r ≡ requested (map string_bytes words.entry.now)) }
-    // The size of a task to be generated is in its range.
-    ensures sized { IfOk result (λ o. IfSome o (λ r. IsSized (seen r))) }
-    // Where the first word names no command there is no other answer.
-    ensures no_command { command_named (map string_bytes words.entry.now) ≡ None → result ≡ Ok None }
-{
-    let Some(first) = words.first() else {
-        return Ok(None);
-    };
-    match name_of(first.as_str()) {
-        Some(name) => read_command(alloc, name, words),
-        None => Ok(None),
+impl<'a> Asked<'a> for Request<'a> {
+    type Name = Name;
+
+    ghost Seen = { Seen };
+
+    ghost seen = { seen };
+
+    ghost is_sized = { IsSized };
+
+    ghost named = { named };
+
+    ghost command = { command_of lists };
+
+    ghost has_values = { Has };
+
+    ghost seen_in = { counted_in };
+
+    fn name_of(word: &str) -> Option<Name>
+        ensures { result ≡ named word.now }
+    {
+        name_of(word)
     }
-}
 
-// The same of the command of this name.
-fn read_command<'a>(
-    alloc: Global,
-    name: Name,
-    words: &'a [String],
-) -> Result<Option<Request<'a>>, Memory>
-    ensures request { IfOk result (λ r. option_map seen r ≡ requested_of name (map string_bytes words.entry.now)) }
-    ensures sized { IfOk result (λ o. IfSome o (λ r. IsSized (seen r))) }
-{
-    let by = lists_of_words();
-    let Ok(command) = command_for(alloc, name, by) else {
-        return Err(Memory);
-    };
-    match parse(command, words) {
-        Ok(Some(matches)) => request_in(alloc, name, &matches),
-        Ok(None) => Ok(None),
-        Err(error) => Err(error),
+    fn command_for(alloc: Global, name: Name) -> Result<Command<'a>, AllocError>
+        ensures fit { IfOk result (λ c. IsFit (app_of c)) }
+        ensures same { IfOk result (λ c. IsSame (app_of c) (command_of lists name)) }
+        ensures values { IfOk result (λ c. (rows : List Row) → Passed (app_of c).top.rules rows → Has name rows) }
+    {
+        command_by(alloc, name, lists_of_words())
+    }
+
+    fn request_in(
+        alloc: Global,
+        name: Name,
+        matches: &ArgMatches<'a>,
+    ) -> Result<Option<Request<'a>>, Memory>
+        requires { Has name (rows_of (found_of matches.now)) }
+        ensures value { IfOk result (λ o. option_map seen o ≡ counted_in name (rows_of (found_of matches.now))) }
+        ensures sized { IfOk result (λ o. IfSome o (λ r. IsSized (seen r))) }
+    {
+        request_in(alloc, name, matches)
     }
 }

@@ -10,9 +10,9 @@ use Rattle.requests.specs.Among.{AreAmong}
 use Rattle.plan_endings.specs.declared.ending.Ending.{Ending}
 use Rattle.plan_endings.specs.declared.ending.Ending.TheVariants.{TooLong, ReadFault}
 use Rattle.plan_endings.specs.declared.ending.File.{File}
-use Rattle.input_files.specs.Ends.{EndsBy}
-use Rattle.input_files.specs.declared.stop.Stop.{Stop}
-use Rattle.input_files.specs.declared.stop.Stop.TheVariants.{Ends}
+use Rattle.plan_endings.specs.Ends.{EndsBy}
+use Rattle.plan_endings.specs.declared.stop.Stop.{Stop}
+use Rattle.plan_endings.specs.declared.stop.Stop.TheVariants.{Ends}
 use Rattle.input_files.specs.Limits.{AreShort}
 use Rattle.input_files.specs.Files.{Stops, IsFront, IsKept, AreTaken, AreKept, OneEnds, Rises, NotesAmong}
 

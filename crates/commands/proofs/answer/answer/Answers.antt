@@ -1,5 +1,5 @@
 use Rattle.std.proofs.Common.{refl}
-use Rattle.input_files.proofs.published.Stopped.{EndsAs-weaker}
+use Rattle.plan_endings.proofs.published.Stopped.{EndsAs-weaker}
 use Rattle.commands.proofs.Answered.{none_are}
 use Rattle.commands.proofs.answer.answer.Goals as goal
 

@@ -1,6 +1,6 @@
 use Rattle.commands.specs.Tasks.{OnceRead, read}
 use Rattle.commands.specs.Answers.{AnswersCheck}
-use Rattle.input_files.proofs.published.Stopped.{EndsAs-weaker}
+use Rattle.plan_endings.proofs.published.Stopped.{EndsAs-weaker}
 use Rattle.commands.proofs.Answered.{refused_handed}
 use Rattle.commands.proofs.answer.answer_check.Goals as goal
 

@@ -5,7 +5,7 @@ use Rattle.plan_report.specs.Listings.{order_text}
 use Rattle.plan_endings.specs.declared.ending.Ending.TheVariants.{Listing}
 use Rattle.commands.specs.Answers.{AnswersOrder}
 use Rattle.commands.specs.Tasks.{OnceGrounded, grounded}
-use Rattle.input_files.proofs.published.Stopped.{memory_handed}
+use Rattle.plan_endings.proofs.published.Stopped.{memory_handed}
 use Rattle.commands.proofs.Answered.{stop_handed}
 use Rattle.commands.proofs.answer.answer_order.Goals as goal
 

@@ -8,7 +8,7 @@ use Rattle.plan_report.specs.Laws.{IsSmall}
 use Rattle.plan_endings.specs.declared.ending.Ending.TheVariants.{Report}
 use Rattle.commands.specs.Raced.{ComesTo, ended, outcome_of}
 use Rattle.commands.specs.Answers.{AnswersPlan}
-use Rattle.input_files.proofs.published.Stopped.{EndsAs-made}
+use Rattle.plan_endings.proofs.published.Stopped.{EndsAs-made}
 use Rattle.commands.proofs.Answered.{stop_handed, race_handed, actions_below}
 use Rattle.commands.proofs.answer.answer_plan.Goals as goal
 

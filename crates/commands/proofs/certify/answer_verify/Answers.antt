@@ -4,7 +4,7 @@ use Rattle.certificates.specs.Known.{HasTooMany}
 use Rattle.certificates.specs.Judged.{Judges}
 use Rattle.commands.specs.Tasks.{OnceRead, TellsOver, read}
 use Rattle.commands.specs.Answers.{RefusesProof, AnswersVerify, unfit, beyond, spelled, not_checked, checked}
-use Rattle.input_files.proofs.published.Stopped.{EndsAs-handed}
+use Rattle.plan_endings.proofs.published.Stopped.{EndsAs-handed}
 use Rattle.commands.proofs.Answered.{refused_handed}
 use Rattle.commands.proofs.certify.answer_verify.Goals as goal
 

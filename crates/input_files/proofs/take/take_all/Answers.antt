@@ -4,7 +4,7 @@ use Rattle.std.proofs.lemmas.Option.{slice_get_within}
 use Rattle.requests.specs.Seen.{seen, files_of}
 use Rattle.input_files.specs.Limits.{file_at}
 use Rattle.input_files.proofs.published.Hearing.{more_heard, agrees_same, agrees_more}
-use Rattle.input_files.proofs.published.Stopped.{Stops-handed}
+use Rattle.plan_endings.proofs.published.Stopped.{Stops-handed}
 use Rattle.input_files.proofs.published.Taking.{name_at, none_taken, noted_so, noted_here, rises_so, ends_here, one_more, all_taken}
 use Rattle.input_files.proofs.take.take_all.Goals as goal
 

@@ -1,5 +1,5 @@
 use Rattle.plan_tasks.specs.Tasks.{RefusesTask, TellsOver, StopsTask, refused, past}
-use Rattle.input_files.proofs.published.Stopped.{Stops-handed}
+use Rattle.plan_endings.proofs.published.Stopped.{Stops-handed}
 use Rattle.plan_tasks.proofs.ready.ready_with.Goals as goal
 
 pub returns-in_err-task-clause-stops : goal.returns-in_err-task-clause-stops

@@ -1,7 +1,7 @@
 use Rattle.pd_sexp.specs.View.{view}
 use Rattle.plan_endings.specs.declared.ending.File.TheVariants.{Problem}
 use Rattle.plan_tasks.specs.Tasks.{RefusesTree, RefusesTrees, RefusesTask, problem_tree, no_task}
-use Rattle.input_files.proofs.published.Stopped.{Stops-handed, StopsBy-weaker}
+use Rattle.plan_endings.proofs.published.Stopped.{Stops-handed, StopsBy-weaker}
 use Rattle.plan_tasks.proofs.task.task_with.Goals as goal
 
 pub returns-in_err-second-clause-stops : goal.returns-in_err-second-clause-stops

@@ -4,7 +4,7 @@ use Rattle.plan_endings.specs.Ending.{batch_of}
 use Rattle.plan_top.specs.own.Parts.{AnswersRun, AnswersBatch, woven}
 use Rattle.plan_top.proofs.Batches.{runs_open, runs_sound, woven_answers}
 use Rattle.plan_top.proofs.Lists.{zip_length}
-use Rattle.input_files.proofs.published.Stopped.{EndsAs-made}
+use Rattle.plan_endings.proofs.published.Stopped.{EndsAs-made}
 use Rattle.plan_top.proofs.batch.answer_batch.Goals as goal
 
 pub raced_all-requires-clause-sound : goal.raced_all-requires-clause-sound

@@ -13,7 +13,7 @@ use Rattle.plan_top.specs.own.Parts.{IsBatch, AnswersBatch}
 use Rattle.plan_top.proofs.Batches.{files_fit, request_comes, request_unread}
 use Rattle.plan_top.proofs.Told.{taken_comes}
 use Rattle.input_files.proofs.published.Hearing.{handed_once}
-use Rattle.input_files.proofs.published.Stopped.{EndsAs-handed, EndsAs-weaker}
+use Rattle.plan_endings.proofs.published.Stopped.{EndsAs-handed, EndsAs-weaker}
 use Rattle.plan_top.proofs.decide.decide_request.Goals as goal
 
 -- the request of an arm: a batch, or else one of one task

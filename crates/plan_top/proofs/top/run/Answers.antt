@@ -1,8 +1,9 @@
 use Rattle.std.proofs.Common.{◌≡◌, Some, ap, refl, sym, arith, map, string_bytes, Result}
-use Rattle.input_files.specs.declared.stop.Stop.{Stop}
-use Rattle.input_files.specs.Ends.{EndsAs, ending_in}
-use Rattle.input_files.proofs.published.Stopped.{ending_answers}
+use Rattle.plan_endings.specs.declared.stop.Stop.{Stop}
+use Rattle.plan_endings.specs.Ends.{EndsAs, ending_in}
+use Rattle.plan_endings.proofs.published.Stopped.{ending_answers}
 use Rattle.plan_endings.specs.declared.ending.Ending.{Ending}
+use Rattle.plan_endings.specs.declared.ending.Ending.TheVariants.{Usage}
 use Rattle.plan_top.proofs.Promises.{status_apart, plan_runs, refuted_steps, refuted_plans, least, unfinished, lines, ground_told, order_told, reached, read_fault, usage, not_taken, no_command, same_report, complete, certified, verified, accepted, rejected, batch, parts_are_so, as_alone, not_reached, exhausted, found_steps, every_order_runs, proved_plan, passes, proves_refuted, proves_found}
 use Rattle.plan_top.proofs.top.run.Goals as goal
 
@@ -71,7 +72,7 @@ pub returns-clause-rejected : goal.returns-clause-rejected
 returns-clause-rejected g c = let h = c.decide.ensures.agrees in rejected _ _ h.0 h.1 _ _ _ _ _ _ c.laws.ensures (returns-clause-due g c h.0 h.1)
 
 pub returns-clause-no_command : goal.returns-clause-no_command
-returns-clause-no_command g c none = let h = c.decide.ensures.agrees in no_command _ _ h.0 h.1 _ _ _ _ _ _ (returns-clause-due g c h.0 h.1) (rw none refl) (c.finish.ensures.usage (ap ending_in (c.decide.ensures.no_command none)))
+returns-clause-no_command g c none = let h = c.decide.ensures.agrees in no_command _ _ h.0 h.1 _ _ _ _ _ _ (returns-clause-due g c h.0 h.1) (rw none refl) (c.finish.ensures.there Usage (ap ending_in (c.decide.ensures.no_command none)) refl)
 
 pub returns-clause-same_report : goal.returns-clause-same_report
 returns-clause-same_report g c took handed = same_report _ _ took handed _ _ _ _ _ _ c.laws.ensures (returns-clause-due g c took handed)

@@ -1,9 +1,9 @@
 //! Why a run has no more to decide.
 ghost use Rattle.std.specs.Prelude.{◌≡◌};
-ghost use Rattle.input_files.specs.declared.stop.Stop.TheVariants as stop;
+ghost use Rattle.plan_endings.specs.declared.stop.Stop.TheVariants as stop;
 
-use pd_model::Memory;
-use plan_endings::{Ending, File, Kind};
+use crate::{Ending, File, Kind};
+use pl_io::Memory;
 use std::alloc::{AllocError, AllocFailed};
 
 /// The run ends, or memory is wanting.

@@ -7,10 +7,7 @@ use Rattle.clap.specs.Takes.{takes}
 use Rattle.requests.specs.Same.{IsSame}
 
 -- a command that is a fixed one but for where its lists lie, where the matches of the fixed one say what is asked for
-module _ {Seen : Type 0} (app command fixed : App) (words : List Text) (seen_in : List Row → Option Seen) (is : app ≡ command) (like : IsSame command fixed) where
-  same : IsSame app fixed
-  same = subst (λ (a : App). IsSame a fixed) (sym is) like
-
+module _ {Seen : Type 0} (app fixed : App) (words : List Text) (seen_in : List Row → Option Seen) (same : IsSame app fixed) where
   -- one that takes the words asks for what the fixed one does
   pub asked : (rows : List Row) (o : Option Seen) → ((other : App) → IsSame app other → true ≡ takes other words) → ((other : App) → IsSame app other → rows ≡ matches_of other words) → o ≡ seen_in rows
       → o ≡ (if takes fixed words then seen_in (matches_of fixed words) else None)
