@@ -41,6 +41,7 @@ abbrev pub IsSmall : Ended → Type 0
 IsSmall (Plain end) = plain.IsSmall end
 IsSmall (Refuted horizon entries) = (horizon < 2 ^ 64) × (entries < 2 ^ 64)
 IsSmall (Rejected line) = line < 2 ^ 64
+IsSmall (TooLong line) = line < 2 ^ 64
 IsSmall (Syntax at) = at < 2 ^ 64
 IsSmall (NoModel clause) = clause + 1 < 2 ^ 64
 IsSmall (NoText at) = at < 2 ^ 64

@@ -1,5 +1,5 @@
 //! Pieces of a text, cut into lines.
-ghost use Rattle.std.specs.Prelude.{◌≡◌, ◌≢◌, ◌<◌, ◌+◌, ◌++◌, ◌∷◌, [], ℕ, List, true, length, IfOk, IfSome, IfNone};
+ghost use Rattle.std.specs.Prelude.{◌≡◌, ◌≢◌, ◌<◌, ◌+◌, ◌++◌, ◌∷◌, [], ℕ, List, true, false, length, IfOk, IfSome, IfNone};
 ghost use Rattle.clause_base.specs.Formula.{IsUnsatisfiable};
 ghost use Rattle.lrat_judge.specs.Judged.{IsRefutedBy, has_empty, counted};
 ghost use Rattle.lrat_judge.specs.Follow.{Known};
@@ -7,7 +7,7 @@ ghost use Rattle.lrat_judge.specs.Verdicts.{outcome_of, verdict_of, most_line};
 ghost use Rattle.lrat_judge.specs.Reached.{IsBefore, Comes, HasRead, has_no_end};
 
 use crate::lines::Lines;
-use crate::verdict::{MOST_LINE, Verdict};
+use crate::verdict::{Verdict, is_long};
 use clause_base::formula::Formula;
 use containers::memory::Memory;
 use sat_text::lines::first_line;
@@ -59,6 +59,13 @@ impl<'a> Judge<'a> {
         })
     }
 
+    // Whether the formula has the empty clause.
+    fn is_refuted(&self) -> bool
+        ensures { result ≡ has_empty self.now.formula.clauses }
+    {
+        self.has_empty
+    }
+
     // Takes the end of the next line, whose front is held.
     fn take_end(&mut self, end: &[u8]) -> Result<Verdict, Memory>
         ensures formula { self.new.formula ≡ self.old.formula }
@@ -84,7 +91,7 @@ impl<'a> Judge<'a> {
         ensures long { IfOk result (λ verdict. verdict ≢ Verdict.More → (verdict ≡ Verdict.TooLong (counted (self.old.count + 1))) × (most_line < length (self.old.front ++ rest.now))) }
     {
         self.front.extend_from_slice(rest)?;
-        if MOST_LINE < self.front.len() {
+        if is_long(&self.front) {
             return Ok(Verdict::TooLong {
                 line: self.lines.next(),
             });
@@ -92,18 +99,15 @@ impl<'a> Judge<'a> {
         Ok(Verdict::More)
     }
 
-    /// Takes the next piece of the text, cut off anywhere. After any verdict but `More`, which is that on each text that begins so, and
-    /// after want of memory, the judging is over.
-    pub fn take(&mut self, piece: &[u8]) -> Result<Verdict, Memory>
+    // Takes the next piece of the text, of a formula without the empty clause.
+    fn take_lines(&mut self, piece: &[u8]) -> Result<Verdict, Memory>
+        requires { has_empty self.old.formula.clauses ≡ false }
         ensures formula { self.new.formula ≡ self.old.formula }
         ensures refuted { (entries : ℕ) → result ≡ Ok (Verdict.Refuted entries) → IsUnsatisfiable self.old.formula.clauses }
         ensures entries { (entries : ℕ) → result ≡ Ok (Verdict.Refuted entries) → IsRefutedBy self.old.formula entries }
         ensures verdict { (text : List ℕ) → HasRead self.old text → IfOk result (λ verdict. verdict ≢ Verdict.More → (more : List ℕ) → verdict ≡ verdict_of self.old.formula ((text ++ piece.now) ++ more)) }
         ensures read { (text : List ℕ) → HasRead self.old text → result ≡ Ok Verdict.More → HasRead self.new (text ++ piece.now) }
     {
-        if self.has_empty {
-            return Ok(Verdict::Refuted { entries: 0 });
-        }
         let mut rest = piece;
         while let Some((line, others)) = first_line(rest) {
             let verdict = self.take_end(line)?;
@@ -115,6 +119,21 @@ impl<'a> Judge<'a> {
         self.hold(rest)
     }
 
+    /// Takes the next piece of the text, cut off anywhere. After any verdict but `More`, which is that on each text that begins so, and
+    /// after want of memory, the judging is over.
+    pub fn take(&mut self, piece: &[u8]) -> Result<Verdict, Memory>
+        ensures formula { self.new.formula ≡ self.old.formula }
+        ensures refuted { (entries : ℕ) → result ≡ Ok (Verdict.Refuted entries) → IsUnsatisfiable self.old.formula.clauses }
+        ensures entries { (entries : ℕ) → result ≡ Ok (Verdict.Refuted entries) → IsRefutedBy self.old.formula entries }
+        ensures verdict { (text : List ℕ) → HasRead self.old text → IfOk result (λ verdict. verdict ≢ Verdict.More → (more : List ℕ) → verdict ≡ verdict_of self.old.formula ((text ++ piece.now) ++ more)) }
+        ensures read { (text : List ℕ) → HasRead self.old text → result ≡ Ok Verdict.More → HasRead self.new (text ++ piece.now) }
+    {
+        if self.is_refuted() {
+            return Ok(Verdict::Refuted { entries: 0 });
+        }
+        self.take_lines(piece)
+    }
+
     /// Takes that the text ends after the pieces so far, and answers what is then known. The last line may lack its LF.
     pub fn finish(&mut self) -> Result<Verdict, Memory>
         ensures formula { self.new.formula ≡ self.old.formula }
@@ -122,7 +141,7 @@ impl<'a> Judge<'a> {
         ensures entries { (entries : ℕ) → result ≡ Ok (Verdict.Refuted entries) → IsRefutedBy self.old.formula entries }
         ensures verdict { (text : List ℕ) → HasRead self.old text → IfOk result (λ verdict. verdict ≡ verdict_of self.old.formula text) }
     {
-        if self.has_empty {
+        if self.is_refuted() {
             return Ok(Verdict::Refuted { entries: 0 });
         }
         match self.lines.take(&self.front)? {

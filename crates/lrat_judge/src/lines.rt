@@ -10,7 +10,7 @@ ghost use Rattle.lrat_judge.specs.Reached.{StandsAt, Stands, IsBefore, Comes};
 
 use crate::entries::{forget, learn};
 use crate::ids::IdTable;
-use crate::verdict::{MOST_LINE, Verdict};
+use crate::verdict::{Verdict, is_long};
 use clause_base::formula::Formula;
 use containers::memory::Memory;
 use rup_check::checker::Checker;
@@ -111,7 +111,7 @@ impl<'a> Lines<'a> {
         let at = self.at;
         self.at = at.saturating_add(bytes.len() as u64 + 1);
         self.count = self.count.saturating_add(1);
-        if MOST_LINE < bytes.len() {
+        if is_long(bytes) {
             return Ok(Verdict::TooLong { line: self.count });
         }
         if !self.line.read(bytes)? {

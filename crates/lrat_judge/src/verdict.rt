@@ -1,3 +1,7 @@
+//! What is said of a proof, and how long its lines may be.
+ghost use Rattle.std.specs.Prelude.{◌≡◌, length, nat_lt};
+ghost use Rattle.lrat_judge.specs.Verdicts.{most_line};
+
 /// What is known of a proof after some of its text.
 #[derive(Clone, Copy, PartialEq, Eq)]
 pub enum Verdict {
@@ -29,3 +33,10 @@ pub enum Verdict {
 
 /// How many bytes a line of a proof may have, without its LF.
 pub const MOST_LINE: usize = 16_777_216;
+
+/// Whether a line, or the front of one, has more bytes than a line may have.
+pub(crate) fn is_long(bytes: &[u8]) -> bool
+    ensures { result ≡ nat_lt most_line (length bytes.now) }
+{
+    MOST_LINE < bytes.len()
+}

@@ -1,15 +1,14 @@
-use Rattle.std.proofs.Common.{◌==◌, ◌∙◌, ℕ, List, length, sym, ap}
-use Rattle.std.proofs.lemmas.Bool.{eqb-true}
+use Rattle.std.proofs.Common.{◌≡◌, ◌∙◌, ◌+◌, ◌++◌, ℕ, List, length, sym, ap}
 use Rattle.lrat_judge.specs.Judged.{Judged}
-use Rattle.lrat_judge.specs.declared.verdict.Verdict.TheVariants.{Syntax}
-use Rattle.lrat_judge.proofs.Reading.{end_empty, end_cut}
+use Rattle.lrat_judge.proofs.Counted.{unsatisfiable_once, refuted_at}
+use Rattle.lrat_judge.proofs.Reading.{at_once, at_end, decided, last_line}
 use Rattle.lrat_judge.proofs.judge.Judge.finish.Goals as goal
 
-pub returns-then-is_empty-clause-verdict : goal.returns-then-is_empty-clause-verdict
-returns-then-is_empty-clause-verdict c text read =
-    end_empty c.args.self.now text read (ap (λ (j : Judged). length j.front) (sym c.self.view_is) ∙ eqb-true (length c.self.inside.front.items) 0 (ap (λ (front : List ℕ). length front == 0) (sym c.as_slice.ensures.value) ∙ (sym c.is_empty.ensures ∙ c.if-is_empty.true)))
+pub returns-then-is_refuted-clause-refuted : goal.returns-then-is_refuted-clause-refuted
+returns-then-is_refuted-clause-refuted c entries e = unsatisfiable_once c.args.self.now.formula (sym c.is_refuted.ensures ∙ c.if-is_refuted.true)
 
-pub returns-else-is_empty-clause-verdict : goal.returns-else-is_empty-clause-verdict
-returns-else-is_empty-clause-verdict c text read =
-    let some = ap (λ (j : Judged). length j.front == 0) (sym c.self.view_is) ∙ (ap (λ (front : List ℕ). length front == 0) (sym c.as_slice.ensures.value) ∙ (sym c.is_empty.ensures ∙ c.if-is_empty.false)) in
-    ap (λ (n : ℕ). Syntax n) (c.at.ensures ∙ ap (λ (j : Judged). j.at) c.self.view_is) ∙ end_cut c.args.self.now text read some
+pub returns-then-is_refuted-clause-entries : goal.returns-then-is_refuted-clause-entries
+returns-then-is_refuted-clause-entries c entries e = refuted_at c.args.self.now.formula entries (sym c.is_refuted.ensures ∙ c.if-is_refuted.true) e
+
+pub returns-then-is_refuted-clause-verdict : goal.returns-then-is_refuted-clause-verdict
+returns-then-is_refuted-clause-verdict c text read = at_once c.args.self.now.formula text (sym c.is_refuted.ensures ∙ c.if-is_refuted.true)
