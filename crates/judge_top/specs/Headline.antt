@@ -18,7 +18,7 @@ use Rattle.plan_tasks.specs.Tasks.{AreTask, StopsTask}
 use Rattle.plan_report.specs.Report.{plan_text}
 use Rattle.sat_text.specs.FirstFalse.{IsFirstFalse}
 use Rattle.sat_text.specs.Values.{NoText as no_text, Values as values_read}
-use Rattle.pl_io.specs.Tape.{Given, IsFileOf}
+use Rattle.pl_io.specs.Tape.{Given, IsReadOnce, IsFileOf}
 use Rattle.clause_base.specs.Formula.{IsModel, assignment_of}
 use Rattle.step_laws.specs.Form.{steps_at}
 use Rattle.judge_top.specs.Answers.{IsReadAs, word_of, ended_by}
@@ -31,6 +31,10 @@ IsProvedNone how horizon task = NoStepPlan how horizon task × NoPlan horizon ta
 abbrev pub TellsFormula : Stepping → ℕ → List ℕ → Parts → Type 0
 TellsFormula how horizon text task =
     OfGrounded task (λ g clauses components. text ≡ formula_text (word_of how) horizon (formula_at (places_by how) (form_of g.task clauses components) horizon))
+
+-- a file of this name was opened, once and no other, each call that read it gave what came next, and the claim holds
+abbrev pub WhenRead : Given → Given → List ℕ → (Parts → Type 0) → Parts → Type 0
+WhenRead old new name claim task = IsReadOnce old new name × claim task
 
 -- the verdict on the bytes of a whole file, of which these were handed over, for the formula of a horizon of the task, meets the claim
 abbrev pub OfVerdict : Stepping → ℕ → Given → (Verdict → Type 0) → Parts → Type 0

@@ -2,7 +2,7 @@
 ghost use Rattle.std.specs.Prelude.{◌≡◌, ◌≤◌, ◌<◌, ℕ, [], length, IfOk};
 ghost use Rattle.clause_base.specs.Formula.{IsModel};
 ghost use Rattle.pl_io.specs.Outside.{Rose};
-ghost use Rattle.pl_io.specs.Tape.{IsAtFront};
+ghost use Rattle.pl_io.specs.Tape.{Given as GivenBytes, IsAtFront, given_more};
 ghost use Rattle.plan_endings.specs.Ends.{StopsBy};
 ghost use Rattle.plan_tasks.specs.Stepping.{places_by};
 ghost use Rattle.step_encoding.specs.{Limits.most_literals, Numbers.literals_of};
@@ -58,7 +58,7 @@ pub enum Given {
 
 // What the text that was read to its end is.
 fn finished(mut reader: Reader) -> Given
-    ensures { (variables : ℕ) (tape : TapeRun) → HasRead variables tape.given.bytes reader → tape.given.reading ≡ Reading.Ended → IsGiven variables tape result }
+    ensures { (variables : ℕ) (given : GivenBytes) (tape : TapeRun) → HasRead variables given.bytes reader → given.reading ≡ Reading.Goes → tape.given ≡ given_more given [] → IsGiven variables tape result }
 {
     match reader.finish() {
         Some(at) => Given::NoText { at },

@@ -1,7 +1,6 @@
 //! The top call.
 ghost use Rattle.std.specs.Prelude.{◌≡◌, ◌≢◌, ◌≤◌, ℕ, List, [], ◌∷◌, map, string_bytes, Some, None, Contains};
 ghost use Rattle.pl_io.specs.Outside.{Agrees, appended, TakesFront, Rose, fault_count};
-ghost use Rattle.pl_io.specs.Tape.{IsReadOnce};
 ghost use Rattle.requests.specs.declared.request.Stepping.{Stepping};
 ghost use Rattle.input_files.specs.Files.{NotesAmong};
 ghost use Rattle.plan_tasks.specs.Claims.{Printed, OfFiles};
@@ -11,7 +10,7 @@ ghost use Rattle.judge_top.specs.Ended.{status_of, text_of};
 ghost use Rattle.judge_top.specs.declared.ended.Ended.{Ended};
 ghost use Rattle.judge_top.specs.Answers.{tape_run};
 ghost use Rattle.judge_top.specs.Causes.{Comes, OfTaken, HasFault, names_in};
-ghost use Rattle.judge_top.specs.Headline.{IsProvedNone, PlanRunsIn, TellsFormula, OfVerdict, IsAccepted, IsRejected, IsNoProof, TellsModel, TellsNoModel, TellsNoText, OrNoTask};
+ghost use Rattle.judge_top.specs.Headline.{IsProvedNone, PlanRunsIn, TellsFormula, WhenRead, OfVerdict, IsAccepted, IsRejected, IsNoProof, TellsModel, TellsNoModel, TellsNoText, OrNoTask};
 
 use crate::decide::decide;
 use pl_io::{Shelf, Sink, Tape};
@@ -54,39 +53,35 @@ pub fn judge<H: Threads + Sync, S: Shelf, T: Tape, K: Sink>(
     // from the formula of the horizon by reverse unit propagation, up to the first that adds it; or the formula has that clause.
     ensures accepted { (domain problem proof : List ℕ) (horizon : ℕ) (how : Stepping) → result.0 ≡ 0
         → requested (map string_bytes words.now) ≡ Some (judges domain problem horizon proof how)
-        → IsReadOnce (T.given tape.old) (T.given tape.new) proof
-        × OfFiles (S.heard shelf.old) (S.heard shelf.new) domain problem (OfVerdict how horizon (T.given tape.new) IsAccepted) }
+        → OfFiles (S.heard shelf.old) (S.heard shelf.new) domain problem (WhenRead (T.given tape.old) (T.given tape.new) proof (OfVerdict how horizon (T.given tape.new) IsAccepted)) }
 
     // With status 1 it was read so too, and its bytes are not such: the text tells the first line that does not follow, or that each
     // follows and none is empty. That is so whatever comes after the bytes that were handed over, where its end was not told.
     ensures rejected { (text domain problem proof : List ℕ) (horizon : ℕ) (how : Stepping) → result.0 ≡ 1 → Printed (K.taken sink.old) (K.taken sink.new) text
         → requested (map string_bytes words.now) ≡ Some (judges domain problem horizon proof how)
-        → IsReadOnce (T.given tape.old) (T.given tape.new) proof
-        × OfFiles (S.heard shelf.old) (S.heard shelf.new) domain problem (OfVerdict how horizon (T.given tape.new) (IsRejected horizon text)) }
+        → OfFiles (S.heard shelf.old) (S.heard shelf.new) domain problem (WhenRead (T.given tape.old) (T.given tape.new) proof (OfVerdict how horizon (T.given tape.new) (IsRejected horizon text))) }
 
     // With status 3 the domain or the problem is refused, or the proof was read so, and its bytes are no LRAT text at the offset that is
     // told.
     ensures no_proof { (text domain problem proof : List ℕ) (horizon : ℕ) (how : Stepping) → result.0 ≡ 3 → Printed (K.taken sink.old) (K.taken sink.new) text
         → requested (map string_bytes words.now) ≡ Some (judges domain problem horizon proof how)
-        → OfTaken (S.heard shelf.old) (S.heard shelf.new) domain problem (OrNoTask text (λ task. IsReadOnce (T.given tape.old) (T.given tape.new) proof × OfVerdict how horizon (T.given tape.new) (IsNoProof horizon text) task)) }
+        → OfTaken (S.heard shelf.old) (S.heard shelf.new) domain problem (OrNoTask text (WhenRead (T.given tape.old) (T.given tape.new) proof (OfVerdict how horizon (T.given tape.new) (IsNoProof horizon text)))) }
 
     // With status 0 the model was opened once, no call that read it failed, and its bytes are the text of a model, whose values satisfy
     // the formula of the horizon, and the text tells the steps that they stand for.
     ensures model_told { (text domain problem model : List ℕ) (horizon : ℕ) (how : Stepping) → result.0 ≡ 0 → Printed (K.taken sink.old) (K.taken sink.new) text
         → requested (map string_bytes words.now) ≡ Some (models domain problem horizon model how)
-        → IsReadOnce (T.given tape.old) (T.given tape.new) model
-        × OfFiles (S.heard shelf.old) (S.heard shelf.new) domain problem (TellsModel how horizon (T.given tape.new) text) }
+        → OfFiles (S.heard shelf.old) (S.heard shelf.new) domain problem (WhenRead (T.given tape.old) (T.given tape.new) model (TellsModel how horizon (T.given tape.new) text)) }
 
     // With status 1 it was read so too, its values leave a clause untrue, and the text tells the first.
     ensures no_model { (text domain problem model : List ℕ) (horizon : ℕ) (how : Stepping) → result.0 ≡ 1 → Printed (K.taken sink.old) (K.taken sink.new) text
         → requested (map string_bytes words.now) ≡ Some (models domain problem horizon model how)
-        → IsReadOnce (T.given tape.old) (T.given tape.new) model
-        × OfFiles (S.heard shelf.old) (S.heard shelf.new) domain problem (TellsNoModel how horizon (T.given tape.new) text) }
+        → OfFiles (S.heard shelf.old) (S.heard shelf.new) domain problem (WhenRead (T.given tape.old) (T.given tape.new) model (TellsNoModel how horizon (T.given tape.new) text)) }
 
     // With status 3 the domain or the problem is refused, or the model was read so, its bytes are no text of one, and the text tells where.
     ensures no_text { (text domain problem model : List ℕ) (horizon : ℕ) (how : Stepping) → result.0 ≡ 3 → Printed (K.taken sink.old) (K.taken sink.new) text
         → requested (map string_bytes words.now) ≡ Some (models domain problem horizon model how)
-        → OfTaken (S.heard shelf.old) (S.heard shelf.new) domain problem (OrNoTask text (λ task. IsReadOnce (T.given tape.old) (T.given tape.new) model × TellsNoText how horizon (T.given tape.new) text task)) }
+        → OfTaken (S.heard shelf.old) (S.heard shelf.new) domain problem (OrNoTask text (WhenRead (T.given tape.old) (T.given tape.new) model (TellsNoText how horizon (T.given tape.new) text))) }
 
     // For a formula no file is opened on the tape, nor read.
     ensures untaken { (domain problem : List ℕ) (horizon : ℕ) (how : Stepping) → result.0 ≡ 0

@@ -70,7 +70,8 @@ pub fn verdict_on<T: Tape>(alloc: Global, formula: &Formula, tape: &mut T) -> Re
     let mut piece = [0u8; PIECE];
     'reading: loop {
         let Some(count) = next(tape, &mut piece)? else {
-            return Ok(judge.finish()?);
+            let last = judge.finish()?;
+            return Ok(last);
         };
         match judge.take(&piece[..count])? {
             Verdict::More => {}
