@@ -5,6 +5,9 @@ use Rattle.judge_top.proofs.Deciding.{judged_before}
 use Rattle.judge_top.proofs.Handed.{handed, weaker}
 use Rattle.judge_top.proofs.decide.answer.Goals as goal
 
+pub returns-in-Formula-clause-cause : goal.returns-in-Formula-clause-cause
+returns-in-Formula-clause-cause g c = rw c.in-Formula.is (weaker _ _ (λ end h. (refl, h)) c.answer_formula.result c.answer_formula.ensures)
+
 pub returns-in_err-open-in-Judge-clause-cause : goal.returns-in_err-open-in-Judge-clause-cause
 returns-in_err-open-in-Judge-clause-cause g c =
     rw c.in-Judge.is (handed _ _ (λ end h. inl (end, h, refl)) c.in_err-open-in-Judge.field-0.0 c.from_residual.result c.from_residual.ensures.1 c.in_err-open-in-Judge.ensures.stops)
