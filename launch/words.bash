@@ -43,7 +43,7 @@ tell_help() {
     awk -F '  +' -v called="$2" '
         NR == 1 { gsub(/ [|] /, "&" called); print "usage: " called $0; next }
         /^Options: / { next }
-        /^--/ { printf "  %-13s %-20s %-17s %s\n", $1, $2, $3 == "-" ? "" : "(" $3 ")", $5; next }
+        /^--/ { printf "  %-13s %-20s %-17s %s\n", $1, $2 == "-" ? "" : $2, $3 == "-" ? "" : "(" $3 ")", $5; next }
         { print }' "$root/launch/help/$1.txt"
     names=$(sed -n 's/^Options: //p' "$root/launch/help/$1.txt")
     if [ -n "$names" ]; then

@@ -3,7 +3,9 @@ ordinary program tells what is due, inputs that are written for single bodies (a
 import contextlib, importlib.machinery, importlib.util, os, pathlib, random, select, subprocess, sys, tempfile, threading
 from typing import NamedTuple
 
+sys.path.append(str(pathlib.Path(__file__).resolve().parent.parent / "shared"))
 import aimed
+import rows as kept_rows
 from combined import all_tests
 
 CHECK = pathlib.Path(__file__).resolve().parent.parent / "check"
@@ -119,13 +121,13 @@ def script(path):
 def rows(program, folder):
     """The runs of bench/check/rows of both programs that need no changed files and no process that is made otherwise, and of a row of very
     many some."""
-    made, programs = script(CHECK / "rows"), {}
+    programs = {}
     for kind in (PLANNER, JUDGE):
         programs[kind] = folder.parent / kind
         programs[kind].write_text(f'#!/bin/sh\nexec {program} {kind} "$@"\n')
         programs[kind].chmod(0o755)
-    made.make_files(programs, folder)
-    for shows, runs in made.rows(folder):
+    kept_rows.make_files(programs[PLANNER], folder, lambda run: subprocess.run(run.command(programs), cwd=folder, stdout=subprocess.PIPE).stdout)
+    for shows, runs in kept_rows.rows(folder):
         for run in runs[:: 1 + len(runs) // MOST_RUNS]:
             plain = run.changes is None and run.shut is None and not run.due.more and not run.due.made
             if plain and run.program in programs and (run.room is None or run.room >= 0) and (run.first is None or run.room is not None):

@@ -106,6 +106,7 @@ def open_call(source, at):
         yield begin, "the call that begins here is not closed"
 
 
+OR_PLAIN = ", or let plain rewrite both files"
 NUMBERS = ("increase", "decrease", "assign", "scale-up", "scale-down", ":metric", ":functions")
 COMPARES = ("<", ">", "<=", ">=")
 
@@ -115,10 +116,10 @@ def of_unsupported(spot):
     word = spot.item.word if spot.item.word is not None else spot.item.head()
     section = spot.path[1].head() if len(spot.path) > 1 else ""
     if word in NUMBERS:
-        return f"'{word}' is not taken: where these are action costs alone, without-costs takes them away"
+        return f"'{word}' is not taken: where these are action costs alone, plain and without-costs take them away"
     if word == "=":
         what = spot.item.items[1].text() if len(spot.item.items or []) > 1 else word
-        return f"{what} is a numeric fluent, and numbers are not taken: where these are action costs alone, without-costs takes them away"
+        return f"{what} is a numeric fluent, and numbers are not taken: where these are action costs alone, plain and without-costs take them away"
     if word in COMPARES:
         return "numbers are not taken, and so are not compared"
     if word == ":durative-action":
@@ -128,28 +129,28 @@ def of_unsupported(spot):
     if word in (":constraints", "preference"):
         return "constraints and preferences are not taken"
     if word == "either":
-        return "'either' is not taken: declare a type above these types, and use it"
+        return f"'either' is not taken: declare a type above these types, and use it{OR_PLAIN}"
     if section == ":goal":
         return of_goal(word)
     if word in ("or", "imply", "exists"):
         in_effect = is_effect(spot)
-        return f"'{word}' is no effect" if in_effect else f"'{word}' is not taken in conditions: part the action into several"
+        return f"'{word}' is no effect" if in_effect else f"'{word}' is not taken in conditions: part the action into several{OR_PLAIN}"
     if word == "forall":
-        return "'forall' is not taken in conditions, nor inside of 'when': write its instances"
+        return f"'forall' is not taken in conditions, nor inside of 'when': write its instances{OR_PLAIN}"
     if word == "when":
         return "'when' is not taken in conditions, nor inside of 'when'"
     if word == "not":
-        return "'not' is taken of an atom alone: write the contrary of what stands in it"
+        return f"'not' is taken of an atom alone: write the contrary of what stands in it{OR_PLAIN}"
     return f"'{word}' is PDDL that is not taken here"
 
 
 def of_goal(word):
     """What is not taken in a goal: an action can not be parted there, but one can be added."""
     if word in ("or", "exists", "imply"):
-        return f"'{word}' is not taken in a goal: write a problem for each case"
+        return f"'{word}' is not taken in a goal: write a problem for each case{OR_PLAIN}"
     if word == "forall":
-        return "'forall' is not taken in a goal: write its instances"
-    return f"'{word}' is not taken in a goal"
+        return f"'forall' is not taken in a goal: write its instances{OR_PLAIN}"
+    return f"'{word}' is not taken in a goal{OR_PLAIN if word == 'not' else ''}"
 
 
 def is_effect(spot):

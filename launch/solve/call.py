@@ -19,7 +19,7 @@ class Call:
 
     def __init__(self, tool, root, programs, wish, given, kind="exists"):
         self.tool, self.root = tool, root
-        self.planner, self.judge = programs["planner"], programs.get("judge")
+        self.planner, self.judge = programs.get("planner"), programs.get("judge")
         self.searcher, self.judge_of_never = programs.get("search"), programs.get("never")
         self.known, self.refusal = Known(wish, kind), None
         self.jobs = given["jobs"] or processes.processors()
@@ -29,6 +29,7 @@ class Call:
         self.path, self.processes = os.environ.get("PATH", os.defpath), PROCESSES
         self.solver_name, self.planner_words = None, None
         self.rooms, self.disk, self.given, self.signal, self.is_short = None, None, given, None, False
+        self.plain = None
 
     def take_files(self, domain, problem):
         """Reads both files once, and puts what all programs read where no outside program is told of."""
@@ -45,8 +46,8 @@ class Call:
             signal.signal(number, self.note)
         self.rooms = rooms.Rooms(os.environ.get("TMPDIR") or "/tmp")
         self.disk = self.given["disk"] << 20 if self.given.get("disk") else self.rooms.free() // 4
-        self.domain = self.rooms.keep(self.domain_text, "domain")
-        self.problem = self.rooms.keep(self.problem_text, "problem")
+        self.domain = self.rooms.first_domain = self.rooms.keep(self.domain_text, "domain")
+        self.problem = self.rooms.first_problem = self.rooms.keep(self.problem_text, "problem")
 
     def refuse(self, status, line):
         """The files are refused, by a line of a proved program; the first one counts."""

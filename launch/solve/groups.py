@@ -15,6 +15,9 @@ import processes
 SUBREAPER, DEATH_SIGNAL = 36, 1
 LOST = 127
 
+# The signals that a keeper waits for: they are blocked in it, so that none comes in the middle of what it does.
+KEPT = {signal.SIGTERM, signal.SIGCHLD}
+
 # How many processes an outside program may have at once.
 PROCESSES = 512
 
@@ -27,10 +30,6 @@ Part = collections.namedtuple("Part", "words given out most files folder environ
 def part(words, given=None, out=None, most=1 << 26, files=(), folder="/", environment=None, memory=None, size=None, outside=False):
     """How a program is to be run, with what is mostly so."""
     return Part(list(map(os.fspath, words)), given, out, most, files, folder, environment, memory, size, outside)
-
-
-class Stopped(Exception):
-    """The driver asks the keeper to end."""
 
 
 def system_call():
@@ -58,9 +57,14 @@ class Group:
         if out is None:
             self.reads, out = os.pipe()
         driver = os.getpid()
+        before = signal.pthread_sigmask(signal.SIG_BLOCK, KEPT)
         self.keeper = os.fork()
         if self.keeper == 0:
-            keep(it, out, status, driver)
+            try:
+                keep(it, out, status, driver)
+            finally:
+                os._exit(1)
+        signal.pthread_sigmask(signal.SIG_SETMASK, before)
         os.close(status)
         if it.out is None:
             os.close(out)
@@ -142,39 +146,27 @@ class Group:
 
 
 def keep(it, out, status, driver):
-    """The keeper: begins the program, waits for it, and ends what is left."""
+    """The keeper: begins the program, waits for it or for the end that the driver asks for, and ends what is left."""
+    for number in (signal.SIGINT, signal.SIGQUIT, signal.SIGHUP, signal.SIGUSR1):
+        signal.signal(number, signal.SIG_IGN)
+    signal.signal(signal.SIGCHLD, signal.SIG_DFL)
+    os.setsid()
+    close_others({0, 1, 2, out, status, it.given, *it.files})
+    if PRCTL:
+        PRCTL(SUBREAPER, 1, 0, 0, 0)
+        PRCTL(DEATH_SIGNAL, signal.SIGTERM, 0, 0, 0)
     code, own = LOST, 0.0
-    try:
-        signal.signal(signal.SIGTERM, stop)
-        for number in (signal.SIGINT, signal.SIGQUIT, signal.SIGHUP, signal.SIGUSR1):
-            signal.signal(number, signal.SIG_IGN)
-        signal.pthread_sigmask(signal.SIG_SETMASK, ())
-        os.setsid()
-        close_others({0, 1, 2, out, status, it.given, *it.files})
-        if PRCTL:
-            PRCTL(SUBREAPER, 1, 0, 0, 0)
-            PRCTL(DEATH_SIGNAL, signal.SIGTERM, 0, 0, 0)
-        if os.getppid() != driver:
-            raise Stopped
+    if os.getppid() == driver:
         child = os.fork()
         if child == 0:
             begin(it, out)
-        close_others({status})
+        nothing = os.open(os.devnull, os.O_RDWR)
+        for number in range(3):
+            os.dup2(nothing, number)
+        close_others({0, 1, 2, status})
         code, own = wait_for(child)
-    except Stopped:
-        pass
-    finally:
-        signal.signal(signal.SIGTERM, signal.SIG_IGN)
-        try:
-            processes.end_below(os.getpid(), reap)
-            os.write(status, f"{code} {own:.3f}".encode())
-        finally:
-            os._exit(0)
-
-
-def stop(*_):
-    """The driver asks for the end, or is gone."""
-    raise Stopped
+    processes.end_below(os.getpid(), reap)
+    os.write(status, f"{code} {own:.3f}".encode())
 
 
 def close_others(kept):
@@ -188,11 +180,15 @@ def close_others(kept):
 
 
 def wait_for(child):
-    """The status of the program, and its seconds of the processor; other processes that end meanwhile are taken up."""
-    while True:
-        process, ended, used = os.wait4(-1, 0)
-        if process == child:
-            return as_shell(ended), used.ru_utime + used.ru_stime
+    """The status of the program, and its seconds of the processor; other processes that end meanwhile are taken up. Where the driver
+    asks for the end, or is gone, there is no status."""
+    while signal.sigwait(KEPT) != signal.SIGTERM:
+        process = 1
+        while process:
+            process, ended, used = os.wait4(-1, os.WNOHANG)
+            if process == child:
+                return as_shell(ended), used.ru_utime + used.ru_stime
+    return LOST, 0.0
 
 
 def as_shell(ended):
@@ -221,9 +217,10 @@ def begin(it, out):
         close_others({0, 1, 2, *it.files})
         for number in it.files:
             os.set_inheritable(number, True)
-        for number in range(1, signal.NSIG):
-            if number not in (signal.SIGKILL, signal.SIGSTOP) and not 31 < number < 35:
+        for number in range(1, 32):
+            if number not in (signal.SIGKILL, signal.SIGSTOP):
                 signal.signal(number, signal.SIG_DFL)
+        signal.pthread_sigmask(signal.SIG_SETMASK, ())
         limit(it)
         os.chdir(it.folder)
         os.execvpe(it.words[0], it.words, os.environ if it.environment is None else it.environment)

@@ -48,6 +48,10 @@ class Known:
         """No plan has fewer actions."""
         self.least_actions = actions, word
 
+    def forget(self):
+        """The plans are none of the files as they are."""
+        self.few_steps, self.few_actions, self.least_actions = None, None, None
+
     def plan(self):
         """The plan that is to be printed: one that is within what is asked for, if there is one."""
         it = self.few_actions if self.wish.least == "actions" or self.wish.actions is not None else self.few_steps

@@ -34,7 +34,11 @@ def made(room):
     """The text of the plan file; of planners that number their plans, that of the last one."""
     def number(name):
         return int(name[5:] or 0) if re.fullmatch(r"plan(\.\d{1,9})?", name) else -1
-    for name in sorted((it for it in os.listdir(room) if number(it) >= 0), key=number, reverse=True):
+    try:
+        names = [it for it in os.listdir(room) if number(it) >= 0]
+    except OSError:
+        names = []
+    for name in sorted(names, key=number, reverse=True):
         text = rooms.read_made(os.path.join(room, name), LONGEST)
         if text is not None:
             return text

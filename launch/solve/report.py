@@ -1,5 +1,6 @@
 """What a call of `solve` prints: comments and the calls of a plan, or one object of JSON; and its status."""
 from known import sentence, steps_of
+from rewriting import places, told
 
 PROVES = {"check": "check: the calls, executed in turn from the initial state, lead to the goal",
           "model": "model: the calls, executed in turn from the initial state, lead to the goal, in so many steps",
@@ -76,7 +77,7 @@ def accepted_line(known):
     return "; accepted by no word: neither a plan nor that there is none is shown"
 
 
-def lines(call, driver):
+def lines(call, driver, calls):
     """The report."""
     known = call.known
     if call.refusal and not known.plan() and not known.none_within():
@@ -91,23 +92,27 @@ def lines(call, driver):
         found.append(known.never)
     plan = known.plan()
     if plan:
-        found += plan.lines
-    return [*found, known_line(known), accepted_line(known)]
+        found += [f"; plan of {len(calls)} actions", *calls] if call.plain else plan.lines
+    accepted = accepted_line(known)
+    if call.plain:
+        accepted = accepted.replace(":", ", on the rewritten files:", 1)
+        accepted += "; an evaluator of plain, of which nothing is proved, accepts the calls on the files as they are" if plan else ""
+    return [*found, *told(call), known_line(known), accepted]
 
 
-def as_json(call, driver, status, versions):
+def as_json(call, driver, status, calls, versions):
     """The same as one object."""
     import json  # (it takes longer to read than a short call)
     known, plan = call.known, call.known.plan()
     answer = "plan" if plan else "none" if known.none_within() else "refused" if call.refusal else "open"
     return json.dumps({
-        "status": status, "answer": answer, "plan": plan.calls if plan else None, "actions": len(plan.calls) if plan else None,
+        "status": status, "answer": answer, "plan": calls if plan else None, "actions": len(calls) if plan else None,
         "steps": plan.steps if plan else None, "engine": plan.engine if plan else known.never_word or None,
         "accepted_by": accepted_line(known)[2:], "any_length": bool(known.never),
         "bounds": {"refuted_horizon": known.refuted if known.refuted >= 0 else None, "refuted_by": known.refuted_word,
                    "least_steps_known": known.upper(), "least_actions_known": len(known.few_actions.calls) if known.few_actions else None,
                    "states": known.states or None, "is_least": bool(plan and known.wish.least and known.is_least())},
-        "refusal": call.refusal[1] if call.refusal else None, "limits": known.limits,
+        "rewritten": places(call), "refusal": call.refusal[1] if call.refusal else None, "limits": known.limits,
         "engines": [{"name": it.row.name, "came_to": it.told, "seconds": round(it.seconds, 3)} for it in driver.engines],
         "seconds": round(driver.spent(), 3), "versions": versions})
 

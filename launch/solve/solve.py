@@ -5,6 +5,7 @@ import sys
 import options
 import planfile
 import report
+import rewriting
 import rooms
 import solvers
 import table
@@ -30,6 +31,8 @@ def read_words(root, words):
 
 def find_others(call, given):
     """The outside programs: those that are named have to be there, a solver that is not named may be."""
+    if not call.planner:
+        raise solvers.NoSolver("there is no planner to check plans")
     there = {"plan"} | {it for it in ("search", "never") if getattr(call, {"search": "searcher", "never": "judge_of_never"}[it])}
     if given["planner"]:
         call.planner_words = options.command(given["planner"], call.path)
@@ -75,17 +78,22 @@ def end(call, driver, there, target, root):
     """Prints what is known, puts the plan into its file, and gives the status."""
     block_signals()
     status = report.status_of(call, driver)
+    calls, fault = rewriting.give_back(call, call.known.plan()) if status == 0 else ([], None)
+    if fault:
+        call.say(f"the plan of the rewritten files is none of the files: {fault}")
+        call.known.forget()
+        status = 2
     if sys.stderr.isatty():
         print("\033[K", end="", file=sys.stderr)
     try:
-        put_out([report.as_json(call, driver, status, versions(call, root, driver.engines))] if call.given["json"]
-                else report.lines(call, driver))
+        put_out([report.as_json(call, driver, status, calls, versions(call, root, driver.engines))] if call.given["json"]
+                else report.lines(call, driver, calls))
     except OSError as error:
         call.say(f"the report could not be written: {error.strerror}")
         status = 6
     try:
         if status == 0:
-            target.put(call.known.plan().calls)
+            target.put(calls)
     except OSError as error:
         call.say(f"the plan could not be written to {target.path}: {error.strerror}")
         status = 6
@@ -120,6 +128,10 @@ def run(root, programs, words):
     driver = Driver(call, engines, tell_progress if sys.stderr.isatty() else None)
     try:
         driver.run()
+        if rewriting.try_plain(call):
+            begun, driver = driver.begun, Driver(call, table.made(call, there, given["engines"]), driver.tell)
+            driver.begun = begun
+            driver.run()
         return end(call, driver, there, target, root)
     finally:
         block_signals()

@@ -12,7 +12,8 @@ from states import Search
 # may run at once; the share of memory that one of its programs may have; its words; what it needs.
 Row = collections.namedtuple("Row", "name maker after turn weight most memory words needs")
 
-# The seconds are those of bench/time/solve-corpus: an easy task has its answer before the heavy engines begin.
+# The seconds are those of bench/time/solve-corpus: on 48 tasks of a corpus, 10 seconds each on one busy processor, `plan growing` had 29 of
+# its 31 answers within a second, `plan each` all of its 26, and `sat` 14 of its 27. So an easy task has its answer before a heavy engine begins.
 ROWS = [
     Row("never", Never, 0.0, 2.0, 1, 1, 0.2, [], "never"),
     Row("search greedy", Search, 0.0, 2.0, 2, 1, 0.3, ["--how", "greedy"], "search"),

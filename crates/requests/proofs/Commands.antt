@@ -1,5 +1,5 @@
 -- Commands that the first of some words names, and what their matches ask for.
-use Rattle.std.proofs.Common.{◌≡◌, ◌∙◌, Bool, true, false, true≢false, List, [], ◌∷◌, map, Option, Some, None, is_some, slice_get, ap, sym, subst, if◌then◌else◌, String, Global, string_bytes}
+use Rattle.std.proofs.Common.{◌≡◌, ◌∙◌, Bool, true, false, true≢false, List, [], ◌∷◌, map, Option, Some, None, is_some, slice_get, ap, sym, if◌then◌else◌, String, Global, string_bytes}
 use Rattle.std.specs.Prelude.{unwrap_or}
 use Rattle.clap.specs.Walk.{Row, Text}
 use Rattle.clap.specs.Simple.{App, matches_of}

@@ -3,8 +3,6 @@ use Rattle.std.proofs.Common.{◌≡◌, ◌<◌, ◌≤◌, ℕ, ◌+◌, Bool,
 use Rattle.gt_core.specs.Published.{IsPublished, order_of}
 use Rattle.gt_core.specs.Task.{Task}
 use Rattle.gt_core.specs.Laws.{NeverItself}
-use Rattle.gt_core.specs.Step.{IsStepPlan}
-use Rattle.pd_model.specs.Plan.{IsPlan}
 use Rattle.pd_model.specs.declared.parts.Parts.{Parts}
 use Rattle.grounding_defs.specs.Grounded.{Grounded, IsGrounded}
 use Rattle.step_laws.specs.Form.{AreSets, member_at}

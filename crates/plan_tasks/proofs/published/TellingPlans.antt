@@ -1,5 +1,5 @@
 -- What steps that are a plan mean for the task and for a text that has their calls.
-use Rattle.std.proofs.Common.{◌≡◌, ◌<◌, ℕ, Bool, true, false, List, [], ◌∷◌, length, refl, sym, ap, subst, ◌∙◌, arith, Option, Some, None, Ok, if◌then◌else◌}
+use Rattle.std.proofs.Common.{◌≡◌, ℕ, Bool, true, false, List, [], ◌∷◌, length, refl, sym, subst, arith, Option, Some, None, Ok, if◌then◌else◌}
 use Rattle.std.specs.Prelude.{IsTrue, Contains, slice_get}
 use Rattle.std.specs.List.{list_all}
 use Rattle.report_lines.specs.Lines.{lines_of}
@@ -14,19 +14,18 @@ use Rattle.pd_model.specs.declared.parts.Parts.{Parts}
 use Rattle.pd_plan.specs.PlanFile.{plan_file}
 use Rattle.grounding_defs.specs.Grounded.{Grounded}
 use Rattle.grounding_defs.specs.Laws.{AreNumbers}
-use Rattle.step_laws.specs.Form.{OrderedTask, IsOrderedTask, AreSets, member_at, steps_at}
+use Rattle.step_laws.specs.Form.{IsOrderedTask, AreSets, member_at, steps_at}
 use Rattle.step_laws.specs.Stepping.{IsStepping}
 use Rattle.step_encoding.specs.Laws.{by_components}
 use Rattle.all_steps.specs.Form.{by_both_ways}
 use Rattle.step_plans.specs.Plans.{AreStepPlan, AreListed, actions_in}
-use Rattle.plan_report.specs.Report.{plan_line, step_lines, calls_by_step, told_lines, plan_text}
+use Rattle.plan_report.specs.Report.{plan_line, calls_by_step, told_lines, plan_text}
 use Rattle.plan_report.specs.Laws.{IsSmallPlan, TellsSteps}
 use Rattle.step_plans.specs.Known.{IsOrdered, form_of, formula_at}
 use Rattle.requests.specs.declared.request.Stepping.{Stepping}
 use Rattle.requests.specs.declared.request.Stepping.TheVariants.{Exists, All}
 use Rattle.plan_tasks.specs.Stepping.{places_by, is_plan_by}
 use Rattle.plan_tasks.specs.Tasks.{IsReady}
-use Rattle.plan_tasks.specs.Claims.{OfGrounded}
 use Rattle.plan_tasks.proofs.published.Claims.{as_barred, of_grounded}
 use Rattle.plan_tasks.specs.ToldPlans.{HasStepPlanOf, PlanRunsIn}
 use Rattle.plan_tasks.specs.PlanLaws.{PlanLaws}
