@@ -9,7 +9,8 @@ use Rattle.std.proofs.Math.Seq.{drop-cons}
 use Rattle.std.proofs.lemmas.Bool.{eqb-true, eq-eqb}
 use Rattle.std.proofs.lemmas.Option.{slice_get_within, get_or_from_slice_get}
 use Rattle.lrat_judge.specs.declared.verdict.Verdict.{Verdict}
-use Rattle.lrat_judge.specs.declared.verdict.Verdict.TheVariants.{Refuted}
+use Rattle.lrat_judge.specs.declared.verdict.Verdict.TheVariants.{More, Refuted, Rejected, NotEmpty, TooLong, Syntax}
+use Rattle.lrat_judge.specs.Verdicts.{verdict_ended}
 use Rattle.lrat_judge.specs.Judged.{HasCounted, IsRefutedBy, has_empty}
 
 or_true : (a b : Bool) → b ≡ true → (a || b) ≡ true
@@ -36,11 +37,11 @@ empty_past clauses n c is some = ap has_empty (open_at clauses n c is) ∙ by (l
 empty_false : (values : ℕ → Bool) (clauses : List (List ℕ)) → has_empty clauses ≡ true → Satisfies values clauses → ⊥
 empty_false values [] some all = absurd (let never : false ≡ true = some in cc)
 empty_false values ([] ∷ clauses) some all = absurd (let never : false ≡ true = all.0 in cc)
-empty_false values ((l ∷ clause) ∷ clauses) some all = by (length (l ∷ clause) == 0) refl
+empty_false values ((l ∷ clause) ∷ clauses) some all = by (λ rest. empty_false values clauses rest all.1) (length (l ∷ clause) == 0) refl
   where
-    by : (b : Bool) → (length (l ∷ clause) == 0) ≡ b → ⊥
-    by true e = let zero_long = eqb-true (length (l ∷ clause)) 0 e in omega (arith, zero_long)
-    by false e = empty_false values clauses (rw e at some) all.1
+    by : (has_empty clauses ≡ true → ⊥) → (b : Bool) → (length (l ∷ clause) == 0) ≡ b → ⊥
+    by left true e = let zero_long = eqb-true (length (l ∷ clause)) 0 e in omega (arith, zero_long)
+    by left false e = left (rw e at some)
 
 -- a formula that has the empty clause is refuted by no entries
 pub unsatisfiable_once : (formula : Cnf) → has_empty formula.clauses ≡ true → IsUnsatisfiable formula.clauses
@@ -49,12 +50,25 @@ unsatisfiable_once formula some = λ values all. empty_false values formula.clau
 pub refuted_once : (formula : Cnf) → has_empty formula.clauses ≡ true → IsRefutedBy formula 0
 refuted_once formula some = record { log = []; derived = λ e less. absurd (omega (arith, less)); empty = rw some refl; count = refl }
 
+-- that the end of a text was said to refute
+abbrev Ended : Verdict → ℕ → Type 0
+Ended verdict entries = verdict_ended verdict ≡ Refuted entries
+
 -- so it is whatever is said of it
 abbrev IsSaid : ℕ → Type 0
 IsSaid entries = ◌≡◌ {A = Result Verdict Memory} (Ok (Refuted 0)) (Ok (Refuted entries))
 
 pub refuted_at : (formula : Cnf) (entries : ℕ) → has_empty formula.clauses ≡ true → IsSaid entries → IsRefutedBy formula entries
 refuted_at formula entries some e = let same : 0 ≡ entries = cc in subst (IsRefutedBy formula) same (refuted_once formula some)
+
+-- what is said at the end of a text is no refutation that was not said of its last line
+pub ended_refutes : (verdict : Verdict) (entries : ℕ) → Ended verdict entries → verdict ≡ Refuted entries
+ended_refutes More entries e = absurd (let never : NotEmpty ≡ Refuted entries = e in cc)
+ended_refutes (Refuted n) entries e = cc
+ended_refutes (Rejected n) entries e = cc
+ended_refutes NotEmpty entries e = cc
+ended_refutes (TooLong n) entries e = cc
+ended_refutes (Syntax n) entries e = cc
 
 pub refuted_by : (checker : CheckerView) (formula : Cnf) (n m : ℕ) → HasCounted checker n → checker.refuted ≡ true → checker.formula ≡ formula → n ≡ m → IsRefutedBy formula m
 refuted_by checker formula n m h r f e = record {
