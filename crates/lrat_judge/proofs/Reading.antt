@@ -102,18 +102,16 @@ long_ends : (formula : Cnf) (known : Known) (at count : ℕ) (line : List ℕ) �
 unfolding outcome_of
 long_ends formula known at count line long = rw (lt-ltb most_line (length line) long) refl
 
-long_first : (formula : Cnf) (known : Known) (at count : ℕ) (line : List ℕ) (more : List (List ℕ)) → most_line < length line → judged formula known at count (line ∷ more) ≡ TooLong (counted (count + 1))
-long_first formula known at count line more long = rw (long_ends formula known at count line long) refl
+long_first : (formula : Cnf) (known : Known) (at count : ℕ) (bytes : List ℕ) (more : List (List ℕ)) → most_line < length bytes → judged formula known at count (bytes ∷ more) ≡ TooLong (counted (count + 1))
+long_first formula known at count bytes more long = ap (λ (o : Outcome). elim o as (λ _. Verdict) [ Ends said ↦ said | Goes next ↦ judged formula next (at + length bytes + 1) (count + 1) more ]) (long_ends formula known at count bytes long)
 
 -- where the front of the next line is too long, the verdict is this, however the text goes on
 pub too_long : (judge : Judged) (text : List ℕ) → HasRead judge text → most_line < length judge.front → (more : List ℕ)
     → TooLong (counted (judge.count + 1)) ≡ judged judge.formula (known_first judge.formula) 0 0 (whole_lines (text ++ more) ++ last_part (text ++ more) ∷ [])
 too_long judge text read long more = count_same ∙ sym (by (split_line more))
   where
-    count_is = read.before.count_is
-
     count_same : TooLong (counted (judge.count + 1)) ≡ TooLong (counted (read.count + 1))
-    count_same = ap (λ (n : ℕ). TooLong n) (omega (arith, count_is))
+    count_same = let count_is = read.before.count_is in ap (λ (n : ℕ). TooLong n) (omega (arith, count_is))
 
     front : most_line < length (last_part text)
     front = subst (λ (t : List ℕ). most_line < length t) read.front long

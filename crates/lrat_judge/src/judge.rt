@@ -3,7 +3,7 @@ ghost use Rattle.std.specs.Prelude.{◌≡◌, ◌≢◌, ◌<◌, ◌+◌, ◌+
 ghost use Rattle.clause_base.specs.Formula.{IsUnsatisfiable};
 ghost use Rattle.lrat_judge.specs.Judged.{IsRefutedBy, has_empty, counted};
 ghost use Rattle.lrat_judge.specs.Follow.{Known};
-ghost use Rattle.lrat_judge.specs.Verdicts.{outcome_of, verdict_of, most_line};
+ghost use Rattle.lrat_judge.specs.Verdicts.{outcome_of, verdict_of, verdict_ended, most_line};
 ghost use Rattle.lrat_judge.specs.Reached.{IsBefore, Comes, HasRead, has_no_end};
 
 use crate::lines::Lines;
@@ -18,7 +18,7 @@ use std::marker::Model;
 #[derive(Drop)]
 pub struct Judge<'a> {
     // Whether the formula has the empty clause.
-    has_empty: bool,
+    at_once: bool,
     front: Vec<u8>,
     lines: Lines<'a>,
 }
@@ -31,7 +31,17 @@ impl<'a> Model for Judge<'a> {
 
     ghost view = { λ j. record { formula = j.lines.formula; checker = j.lines.checker; ids = j.lines.ids; at = j.lines.at; count = j.lines.count; entries = j.lines.entries; front = j.front.items } };
 
-    ghost invariant = { λ j. j.has_empty ≡ has_empty j.lines.formula.clauses };
+    ghost invariant = { λ j. j.at_once ≡ has_empty j.lines.formula.clauses };
+}
+
+// What is said where the text has ended, by what was said of its last line.
+fn ended(verdict: Verdict) -> Verdict
+    ensures { result ≡ verdict_ended verdict }
+{
+    match verdict {
+        Verdict::More => Verdict::NotEmpty,
+        _ => verdict,
+    }
 }
 
 // Whether the empty clause is one of a formula's.
@@ -53,7 +63,7 @@ impl<'a> Judge<'a> {
         ensures read { IfOk result (λ judge. HasRead judge []) }
     {
         Ok(Judge {
-            has_empty: has_empty(formula),
+            at_once: has_empty(formula),
             front: Vec::new(alloc),
             lines: Lines::new(alloc, formula)?,
         })
@@ -63,7 +73,7 @@ impl<'a> Judge<'a> {
     fn is_refuted(&self) -> bool
         ensures { result ≡ has_empty self.now.formula.clauses }
     {
-        self.has_empty
+        self.at_once
     }
 
     // Takes the end of the next line, whose front is held.
@@ -144,9 +154,7 @@ impl<'a> Judge<'a> {
         if self.is_refuted() {
             return Ok(Verdict::Refuted { entries: 0 });
         }
-        match self.lines.take(&self.front)? {
-            Verdict::More => Ok(Verdict::NotEmpty),
-            verdict => Ok(verdict),
-        }
+        let verdict = self.lines.take(&self.front)?;
+        Ok(ended(verdict))
     }
 }
