@@ -68,10 +68,12 @@ def lines_to_certificate(lines, count):
     numbers, following = {}, count
     for at, line in enumerate(lines, 1):
         words = line.split()
-        if len(words) > 1 and words[1] == "d" or not words:
+        if not words or words[0] == "c" or len(words) > 1 and words[1] == "d":
             continue
         try:
             name, literals, named = line_of(words)
+            if literals and any(-it in literals for it in literals):
+                continue
             codes = sorted(map(code_of, literals))
             hints = [it - 1 if it <= count else numbers[it] for it in named]
             if min(hints, default=0) < 0:

@@ -35,7 +35,11 @@ def leads_to_conflict(kept, literals, hints):
 def due_of(variables, clauses, lines, horizon):
     """The line that is due for a proof, given as lists of words, and its status."""
     kept, last, entries = dict(enumerate(clauses, 1)), len(clauses), 0
+    if [] in clauses:
+        return f"; refuted horizon {horizon} entries 0\n", 0
     for number, words in enumerate(lines, 1):
+        if not words or words[0] == "c":
+            continue
         rejected = f"; rejected line {number}\n", 1
         name, literals, hints = line_of(words)
         if literals is None:
@@ -43,6 +47,8 @@ def due_of(variables, clauses, lines, horizon):
                 if kept.pop(it, None) is None:
                     return rejected
                 entries += 1
+            continue
+        if any(-it in literals for it in literals):
             continue
         lawful = len({abs(it) for it in literals}) == len(literals) and all(abs(it) <= variables for it in literals)
         if name <= last or not lawful or not leads_to_conflict(kept, literals, hints):

@@ -13,6 +13,7 @@ REFUSED = re.compile(r"; refused (\w+) (\w+) ([0-9]+)\Z")
 UNREAD = re.compile(r"; read fault (\w+)\Z")
 FILE_LIMIT = re.compile(r"; limit file (\w+)\Z")
 LIMIT = re.compile(r"; limit (tuples|facts|actions|effects) ([0-9]+)\Z")
+LINE = re.compile(r"; limit line ([0-9]+)\Z")
 LITERALS = re.compile(r"; limit literals ([0-9]+) horizon ([0-9]+)\Z")
 FILE_BYTES = {"proof": 16777216}
 LITERALS_OF = {"formula": 16000000, "judge": 16000000, "model": 16000000}
@@ -137,6 +138,11 @@ def tell_limit(line, command):
     found = LITERALS.match(line)
     if found:
         tell_literals(int(found[1]), int(found[2]), command)
+        return True
+    found = LINE.match(line)
+    if found:
+        launcher_says(f"limit: line {found[1]} of the proof has more than the 16777216 bytes that a line may have: is it a proof "
+                      "in text (CaDiCaL writes one with --no-binary)?")
         return True
     found = LIMIT.match(line)
     if found:

@@ -1,6 +1,7 @@
 """Faults of kinds `syntax`, `deep` and `unsupported`."""
 import re
 
+BINARY = re.compile(r"[^\t\n\r -~]")
 TIMED = re.compile(r"[0-9]+(\.[0-9]+)?:?\Z")
 
 
@@ -8,6 +9,8 @@ def of_syntax(source, at, which):
     """The sentence, by what stands at the offset."""
     if which == "proof":
         return "this line is none of a certificate, or of another spelling than the one that prove writes"
+    if which == "LRAT" and BINARY.search(source.text[at : at + 200]):
+        return "this is no text: have the solver write the proof as text, as CaDiCaL does with --no-binary"
     if which == "LRAT":
         return "this line is none of a proof in the text form of LRAT, or is cut off"
     at_end = at == len(source.text)

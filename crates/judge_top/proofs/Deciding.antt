@@ -1,6 +1,7 @@
 -- How the files of a run come to an ending.
 use Rattle.std.proofs.Common.{◌≡◌, ◌≤◌, ℕ, List, [], ◌∷◌, ◌++◌, refl, sym, ap, ap₂, subst, ◌∙◌, arith, inl, inr}
 use Rattle.pl_io.specs.Outside.{Heard, whole, Rose}
+use Rattle.pl_io.specs.Tape.{Given}
 use Rattle.step_laws.specs.Form.{OrderedTask}
 use Rattle.step_plans.specs.Known.{form_of}
 use Rattle.plan_tasks.specs.Stepping.{places_by}
@@ -37,28 +38,28 @@ both_taken file d p heard hears took files first second is taken are =
 pub rose_before : (before middle now : ℕ) → before ≤ middle → Rose middle now → Rose before now
 rose_before before middle now le rose = omega (arith, le, rose)
 
--- what a tape did, from a count of its faults on
-abbrev pub since : ℕ → TapeRun → TapeRun
-since before tape = tape_run before tape.rises tape.given
+-- what a tape did, from a count of its faults and from what it had given on
+abbrev pub since : ℕ → Given → TapeRun → TapeRun
+since before was tape = tape_run before tape.rises was tape.given
 
-pub judged_before : (first second : List ℕ) (s : Stepping) (h : ℕ) (before : ℕ) (tape : TapeRun) → before ≤ tape.faults → (end : Ended) → OnceReady first second (AnswersJudge s h tape) end → OnceReady first second (AnswersJudge s h (since before tape)) end
-judged_before first second s h before tape le end (not_ready plain stops e) = not_ready plain stops e
-judged_before first second s h before tape le end (ready task g are is (too_large plain over e)) = ready task g are is (too_large plain over e)
-judged_before first second s h before tape le end (ready task g are is (unread plain un e)) = ready task g are is (unread plain (un.0, rose_before before tape.faults tape.rises le un.1) e)
-judged_before first second s h before tape le end (ready task g are is (judged verdict e so none)) = ready task g are is (judged verdict e so none)
+pub judged_before : (first second : List ℕ) (s : Stepping) (h : ℕ) (before : ℕ) (was : Given) (tape : TapeRun) → before ≤ tape.faults → (end : Ended) → OnceReady first second (AnswersJudge s h tape) end → OnceReady first second (AnswersJudge s h (since before was tape)) end
+judged_before first second s h before was tape le end (not_ready plain stops e) = not_ready plain stops e
+judged_before first second s h before was tape le end (ready task g are is (too_large plain over e)) = ready task g are is (too_large plain over e)
+judged_before first second s h before was tape le end (ready task g are is (unread plain un e)) = ready task g are is (unread plain (un.0, rose_before before tape.faults tape.rises le un.1) e)
+judged_before first second s h before was tape le end (ready task g are is (judged verdict e so none)) = ready task g are is (judged verdict e so none)
 
-told_before : (s : Stepping) (h before : ℕ) (tape : TapeRun) → before ≤ tape.faults → (said : Told) (form : OrderedTask) → IsTold (places_by s) h tape said form → IsTold (places_by s) h (since before tape) said form
-told_before s h before tape le told.Unread form k = rose_before before tape.faults tape.rises le k
-told_before s h before tape le (told.NoText at) form k = k
-told_before s h before tape le (told.NoModel clause) form k = k
-told_before s h before tape le (told.Plan steps) form k = k
+told_before : (s : Stepping) (h before : ℕ) (was : Given) (tape : TapeRun) → before ≤ tape.faults → (said : Told) (form : OrderedTask) → IsTold (places_by s) h tape said form → IsTold (places_by s) h (since before was tape) said form
+told_before s h before was tape le told.Unread form k = rose_before before tape.faults tape.rises le k
+told_before s h before was tape le (told.NoText at) form k = k
+told_before s h before was tape le (told.NoModel clause) form k = k
+told_before s h before was tape le (told.Plan steps) form k = k
 
-pub model_before : (first second : List ℕ) (s : Stepping) (h before : ℕ) (tape : TapeRun) → before ≤ tape.faults → (end : Ended) → OnceReady first second (AnswersModel s h tape) end → OnceReady first second (AnswersModel s h (since before tape)) end
-model_before first second s h before tape le end (not_ready plain stops e) = not_ready plain stops e
-model_before first second s h before tape le end (ready task g are is (too_large plain over e)) = ready task g are is (too_large plain over e)
-model_before first second s h before tape le end (ready task g are is (model said known small e)) =
+pub model_before : (first second : List ℕ) (s : Stepping) (h before : ℕ) (was : Given) (tape : TapeRun) → before ≤ tape.faults → (end : Ended) → OnceReady first second (AnswersModel s h tape) end → OnceReady first second (AnswersModel s h (since before was tape)) end
+model_before first second s h before was tape le end (not_ready plain stops e) = not_ready plain stops e
+model_before first second s h before was tape le end (ready task g are is (too_large plain over e)) = ready task g are is (too_large plain over e)
+model_before first second s h before was tape le end (ready task g are is (model said known small e)) =
     ready task g are is
-    (model said (record { clauses = known.clauses; components = known.components; ordered = known.ordered; holds = told_before s h before tape le said (form_of g.task known.clauses known.components) known.holds }) small e)
+    (model said (record { clauses = known.clauses; components = known.components; ordered = known.ordered; holds = told_before s h before was tape le said (form_of g.task known.clauses known.components) known.holds }) small e)
 
 -- ---- the names of the two files, as a request gives them
 

@@ -12,7 +12,7 @@ use Rattle.step_encoding.specs.Limits.{most_literals}
 use Rattle.step_encoding.specs.Numbers.{literals_of}
 use Rattle.two_invariants.specs.Closed.{AreInvariants}
 use Rattle.sat_text.specs.Dimacs.{formula_text}
-use Rattle.lrat_judge.specs.Verdicts.{verdict_of}
+use Rattle.pl_io.specs.Tape.{Given}
 use Rattle.lrat_judge.specs.declared.verdict.Verdict.{Verdict}
 use Rattle.step_plans.specs.Known.{form_of, formula_at}
 use Rattle.requests.specs.declared.request.Stepping.{Stepping}
@@ -22,7 +22,7 @@ use Rattle.plan_endings.specs.declared.stop.Stop.{Stop}
 use Rattle.plan_endings.specs.declared.stop.Stop.TheVariants.{Ends, Memory}
 use Rattle.plan_endings.specs.Ends.{StopsBy}
 use Rattle.judge_top.specs.declared.ended.Ended.TheVariants.{Plain}
-use Rattle.judge_top.specs.Answers.{TapeRun, OfKnown, IsFormula, IsTooMany, TellsTooMany, IsToldOf, IsTold, IsBelow, HasNone, word_of, IsVerdict}
+use Rattle.judge_top.specs.Answers.{TapeRun, OfKnown, IsFormula, IsTooMany, TellsTooMany, IsToldOf, IsTold, IsBelow, HasNone, word_of, IsVerdictOn, IsVerdict}
 use Rattle.judge_top.specs.declared.model.Told.{Told}
 use Rattle.judge_top.specs.declared.model.Told.TheVariants as told
 use Rattle.grounding_defs.specs.Grounded.{Grounded, IsGrounded}
@@ -82,5 +82,5 @@ pub has_none : (how : Stepping) (horizon : ℕ) (task : Task) (f : Cnf) → OfKn
 has_none how horizon task f known unsatisfiable = record { clauses = known.clauses; components = known.components; ordered = known.ordered; holds = known.holds.1 unsatisfiable }
 
 -- the verdict for the formula is that for the formula of the horizon
-pub is_verdict : (how : Stepping) (horizon : ℕ) (task : Task) (f : Cnf) (bytes : List ℕ) (verdict : Verdict) → OfKnown task (IsFormula (places_by how) (is_plan_by how) horizon f) → verdict ≡ verdict_of f bytes → OfKnown task (IsVerdict how horizon bytes verdict)
-is_verdict how horizon task f bytes verdict known is = record { clauses = known.clauses; components = known.components; ordered = known.ordered; holds = is ∙ ap (λ (g : Cnf). verdict_of g bytes) known.holds.0 }
+pub is_verdict : (how : Stepping) (horizon : ℕ) (task : Task) (f : Cnf) (given : Given) (verdict : Verdict) → OfKnown task (IsFormula (places_by how) (is_plan_by how) horizon f) → IsVerdictOn f given verdict → OfKnown task (IsVerdict how horizon given verdict)
+is_verdict how horizon task f given verdict known is = record { clauses = known.clauses; components = known.components; ordered = known.ordered; holds = subst (λ (g : Cnf). IsVerdictOn g given verdict) known.holds.0 is }

@@ -1,3 +1,4 @@
+mod Given
 mod Handed
 mod Formulas
 mod Deciding

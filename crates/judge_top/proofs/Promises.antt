@@ -2,14 +2,16 @@
 use Rattle.std.proofs.Common.{◌≡◌, ◌==◌, ◌≤◌, ◌+◌, ◌-◌, ℕ, length, Bool, true, false, List, [], ◌∷◌, Option, Some, None, refl, sym, ap, subst, ◌∙◌, arith, inl, inr}
 use Rattle.std.specs.Prelude.{Contains, ◌⊎◌}
 use Rattle.pl_io.specs.Outside.{Heard, Rose, appended}
+use Rattle.clause_base.specs.Formula.{Cnf}
+use Rattle.pl_io.specs.Tape.{Given, IsFileOf, IsReadOnce}
+use Rattle.pl_io.specs.declared.tape.Reading.TheVariants.{Lost}
 use Rattle.sat_text.specs.Dimacs.{formula_text}
 use Rattle.pd_task.specs.declared.error.PddlError.{PddlError}
 use Rattle.pd_task.specs.declared.error.PddlError.TheVariants as errors
 use Rattle.pd_model.specs.declared.parts.Parts.{Parts}
 use Rattle.grounding_defs.specs.Grounded.{Grounded}
 use Rattle.step_plans.specs.Known.{form_of, formula_at}
-use Rattle.lrat_judge.specs.Judged.{counted}
-use Rattle.lrat_judge.specs.Verdicts.{last_part, verdict_so_far, verdict_ended, verdict_of}
+use Rattle.lrat_judge.specs.Verdicts.{verdict_ended, verdict_of, has_empty}
 use Rattle.lrat_judge.specs.declared.verdict.Verdict.{Verdict}
 use Rattle.lrat_judge.specs.declared.verdict.Verdict.TheVariants as verdicts
 use Rattle.requests.specs.Seen.{grounds}
@@ -36,10 +38,11 @@ use Rattle.judge_top.specs.Requested.{requested}
 use Rattle.judge_top.specs.Ended.{status_of, text_of}
 use Rattle.judge_top.specs.declared.ended.Ended.{Ended}
 use Rattle.judge_top.specs.declared.ended.Ended.TheVariants.{Plain, Unread, Usage}
-use Rattle.judge_top.specs.Answers.{TapeRun, OnceReady, not_ready, ready, AnswersFormula, AnswersJudge, AnswersModel, too_large, formula, unread, judged, model, ended_by, IsUnread, TellsTooMany, word_of}
+use Rattle.judge_top.specs.Answers.{TapeRun, HasOpened, OnceReady, not_ready, ready, AnswersFormula, AnswersJudge, AnswersModel, too_large, formula, unread, judged, model, ended_by, IsUnread, TellsTooMany, word_of}
 use Rattle.judge_top.specs.declared.model.Told.TheVariants as tolds
+use Rattle.judge_top.proofs.Given.{itself}
 use Rattle.judge_top.specs.Causes.{Answers, Comes, no_request, asked, ComesFor, StopsAt, OfTaken, HasFault, names_in, two_of}
-use Rattle.judge_top.specs.Headline.{IsProvedNone, PlanRunsIn, TellsFormula, OfVerdict, IsAccepted, IsRejected, IsNoProof, OrNoTask, TellsModel, TellsNoModel, TellsNoText, IsModelTold, IsNoModelTold, IsNoTextTold}
+use Rattle.judge_top.specs.Headline.{IsProvedNone, PlanRunsIn, TellsFormula, WhenRead, OfVerdict, IsAccepted, IsRejected, IsNoProof, OrNoTask, TellsModel, TellsNoModel, TellsNoText, IsModelTold, IsNoModelTold, IsNoTextTold}
 
 -- ---- statuses of what stops a run
 
@@ -79,11 +82,12 @@ files_between failed fails files place (name ∷ names) (heard ∷ took) end (in
 ]
 
 -- a verdict has a status of its own
-verdict_low : (horizon : ℕ) (verdict : Verdict) → status_of (ended_by horizon verdict) ≤ 3
+verdict_low : (horizon : ℕ) (verdict : Verdict) → status_of (ended_by horizon verdict) ≤ 4
 verdict_low horizon verdicts.More = omega arith
 verdict_low horizon (verdicts.Refuted entries) = omega arith
 verdict_low horizon (verdicts.Rejected line) = omega arith
 verdict_low horizon verdicts.NotEmpty = omega arith
+verdict_low horizon (verdicts.TooLong line) = omega arith
 verdict_low horizon (verdicts.Syntax at) = omega arith
 
 -- where it is 0 the verdict is a refutation
@@ -92,6 +96,7 @@ verdict_zero horizon verdicts.More zero = absurd (omega arith)
 verdict_zero horizon (verdicts.Refuted entries) zero = (entries, refl)
 verdict_zero horizon (verdicts.Rejected line) zero = absurd (omega arith)
 verdict_zero horizon verdicts.NotEmpty zero = absurd (omega arith)
+verdict_zero horizon (verdicts.TooLong line) zero = absurd (omega arith)
 verdict_zero horizon (verdicts.Syntax at) zero = absurd (omega arith)
 
 -- where it is 3 the verdict is that a line is none
@@ -100,19 +105,25 @@ verdict_three horizon verdicts.More three = absurd (omega (arith, three))
 verdict_three horizon (verdicts.Refuted entries) three = absurd (omega (arith, three))
 verdict_three horizon (verdicts.Rejected line) three = absurd (omega (arith, three))
 verdict_three horizon verdicts.NotEmpty three = absurd (omega (arith, three))
+verdict_three horizon (verdicts.TooLong line) three = absurd (omega (arith, three))
 verdict_three horizon (verdicts.Syntax at) three = (at, refl)
 
 -- the verdict on a text that has ended is not that it goes on
-never_more : (text : List ℕ) (verdict : Verdict) → verdict_ended text verdict ≡ verdicts.More → ⊥
-never_more text verdicts.More e = by (length (last_part text) == 0) refl
+ended_apart : (verdict : Verdict) → verdict_ended verdict ≡ verdicts.More → ⊥
+ended_apart verdicts.More e = let never : verdicts.NotEmpty ≡ verdicts.More = e in cc
+ended_apart (verdicts.Refuted entries) e = cc
+ended_apart (verdicts.Rejected line) e = cc
+ended_apart verdicts.NotEmpty e = cc
+ended_apart (verdicts.TooLong line) e = cc
+ended_apart (verdicts.Syntax at) e = cc
+
+never_more : (formula : Cnf) (text : List ℕ) → verdict_of formula text ≡ verdicts.More → ⊥
+unfolding verdict_of
+never_more formula text e = by (has_empty formula.clauses) refl e
   where
-    by : (b : Bool) → (length (last_part text) == 0) ≡ b → ⊥
-    by true f = let never : verdicts.NotEmpty ≡ verdicts.More = rw f at e in cc
-    by false f = let never : verdicts.Syntax (counted (length text - length (last_part text))) ≡ verdicts.More = rw f at e in cc
-never_more text (verdicts.Refuted entries) e = cc
-never_more text (verdicts.Rejected line) e = cc
-never_more text verdicts.NotEmpty e = cc
-never_more text (verdicts.Syntax at) e = cc
+    by : (b : Bool) → has_empty formula.clauses ≡ b → verdict_of formula text ≡ verdicts.More → ⊥
+    by true f g = let never : verdicts.Refuted 0 ≡ verdicts.More = rw f at g in cc
+    by false f g = ended_apart _ (rw f at g)
 
 -- where it is 1 the verdict is that a line does not follow, or that no line adds the empty clause
 verdict_one : (horizon : ℕ) (verdict : Verdict) → (verdict ≡ verdicts.More → ⊥) → status_of (ended_by horizon verdict) ≡ 1 → ((line : ℕ) × (verdict ≡ verdicts.Rejected line)) ⊎ (verdict ≡ verdicts.NotEmpty)
@@ -120,6 +131,7 @@ verdict_one horizon verdicts.More ended one = absurd (ended refl)
 verdict_one horizon (verdicts.Refuted entries) ended one = absurd (omega (arith, one))
 verdict_one horizon (verdicts.Rejected line) ended one = inl (line, refl)
 verdict_one horizon verdicts.NotEmpty ended one = inr refl
+verdict_one horizon (verdicts.TooLong line) ended one = absurd (omega (arith, one))
 verdict_one horizon (verdicts.Syntax at) ended one = absurd (omega (arith, one))
 
 -- ---- statuses of what comes of words
@@ -167,7 +179,7 @@ module _ (heard hears : List Heard) (failed fails : List (List ℕ)) (tape : Tap
 
   answers_low : (names : List (List ℕ)) (request : Seen) (first second : List ℕ) (end : Ended) → Answers tape request end first second → IsLow names failed fails tape.faults tape.rises end
   unfolding IsLow
-  answers_low names (formulas d p h s) first second end k = formula_low names first second s h end k
+  answers_low names (formulas d p h s) first second end k = formula_low names first second s h end k.1
   answers_low names (judges d p h l s) first second end (inl un) = unread_low names un.0 end un.1 un.2
   answers_low names (judges d p h l s) first second end (inr k) = judge_low names first second s h end k.1
   answers_low names (models d p h m s) first second end (inl un) = inl (ap status_of un.0, inr un.1)
@@ -285,44 +297,49 @@ module _ (heard hears : List Heard) (failed fails : List (List ℕ)) (tape : Tap
 
   -- The verdict on the bytes of the proof is the one that an ending of this status tells, where each verdict that such an ending tells
   -- meets the claim.
-  module _ (laws : TaskLaws) (n : ℕ) (horizon : ℕ) (how : Stepping) (claim : Verdict → Type 0) (low : n ≤ 3)
+  module _ (laws : TaskLaws) (n : ℕ) (horizon : ℕ) (how : Stepping) (claim : Verdict → Type 0) (low : n ≤ 3) (proof : List ℕ)
       (gives : (verdict : Verdict) → (verdict ≡ verdicts.More → ⊥) → status_of (ended_by horizon verdict) ≡ n → after ≡ appended before (text_of (ended_by horizon verdict)) → claim verdict) where
-    verdict_told : (end : Ended) → status_of end ≡ n → after ≡ appended before (text_of end) → (task : Parts) (g : Grounded) → IsReady task g → AnswersJudge how horizon tape task g end → OfVerdict how horizon tape.given.1 claim task
-    verdict_told end at printed task g is (too_large plain_end over e) = not_limit n how horizon g end low at plain_end over e
-    verdict_told end at printed task g is (unread plain_end un e) = not_unread n end low at plain_end un e
-    verdict_told end at printed task g is (judged verdict e so none) =
-        claims.of_grounded laws task g is so.clauses so.components so.ordered (λ h clauses components. claim (verdict_of (formula_at (places_by how) (form_of h.task clauses components) horizon) tape.given.1))
-        (subst claim so.holds (gives verdict (λ more. never_more tape.given.1 (verdict_so_far (formula_at (places_by how) (form_of g.task so.clauses so.components) horizon) tape.given.1) (sym so.holds ∙ more)) (sym (ap status_of e) ∙ at) (printed ∙ ap (λ (end : Ended). appended before (text_of end)) e)))
+    verdict_told : HasOpened tape proof → (end : Ended) → status_of end ≡ n → after ≡ appended before (text_of end) → (task : Parts) (g : Grounded) → IsReady task g → AnswersJudge how horizon tape task g end → WhenRead tape.before tape.given proof (OfVerdict how horizon tape.given claim) task
+    verdict_told opened end at printed task g is (too_large plain_end over e) = not_limit n how horizon g end low at plain_end over e
+    verdict_told opened end at printed task g is (unread plain_end un e) = not_unread n end low at plain_end un e
+    verdict_told opened end at printed task g is (judged verdict e so none) =
+        let formula = formula_at (places_by how) (form_of g.task so.clauses so.components) horizon in
+        let ended = λ (more : verdict ≡ verdicts.More). never_more formula tape.given.bytes (sym (so.holds.is tape.given.bytes (itself tape.given)) ∙ more) in
+        let told = gives verdict ended (sym (ap status_of e) ∙ at) (printed ∙ ap (λ (end : Ended). appended before (text_of end)) e) in (
+          record { opened = opened; sound = so.holds.sound },
+          claims.of_grounded laws task g is so.clauses so.components so.ordered (λ h clauses components. (file : List ℕ) → IsFileOf tape.given file → claim (verdict_of (formula_at (places_by how) (form_of h.task clauses components) horizon) file))
+              (λ file whole. subst claim (so.holds.is file whole) told),
+        )
 
   of_verdict : TaskLaws → (n : ℕ) (domain problem proof : List ℕ) (horizon : ℕ) (how : Stepping) (claim : Verdict → Type 0) → n ≤ 1 → IsDue → status ≡ n → requested words ≡ Some (judges domain problem horizon proof how)
-      → ((verdict : Verdict) → (verdict ≡ verdicts.More → ⊥) → status_of (ended_by horizon verdict) ≡ n → after ≡ appended before (text_of (ended_by horizon verdict)) → claim verdict) → OfFiles heard hears domain problem (OfVerdict how horizon tape.given.1 claim)
-  of_verdict laws n domain problem proof horizon how claim low due here is gives = of_request n (judges domain problem horizon proof how) (OfVerdict how horizon tape.given.1 claim) (omega (arith, low)) due here is step
+      → ((verdict : Verdict) → (verdict ≡ verdicts.More → ⊥) → status_of (ended_by horizon verdict) ≡ n → after ≡ appended before (text_of (ended_by horizon verdict)) → claim verdict) → OfFiles heard hears domain problem (WhenRead tape.before tape.given proof (OfVerdict how horizon tape.given claim))
+  of_verdict laws n domain problem proof horizon how claim low due here is gives = of_request n (judges domain problem horizon proof how) (WhenRead tape.before tape.given proof (OfVerdict how horizon tape.given claim)) (omega (arith, low)) due here is step
     where
       step : (end : Ended) → status_of end ≡ n → after ≡ appended before (text_of end) → (first second : List ℕ) → Answers tape (judges domain problem horizon proof how) end first second
-          → (task : Parts) × AreTask first second task × OfVerdict how horizon tape.given.1 claim task
+          → (task : Parts) × AreTask first second task × WhenRead tape.before tape.given proof (OfVerdict how horizon tape.given claim) task
       step end at printed first second (inl un) = not_unread n end (omega (arith, low)) at un.0 un.1 un.2
-      step end at printed first second (inr k) = of_ready n (OfVerdict how horizon tape.given.1 claim) (AnswersJudge how horizon tape) end low at first second k.1 (verdict_told laws n horizon how claim (omega (arith, low)) gives end at printed)
+      step end at printed first second (inr k) = of_ready n (WhenRead tape.before tape.given proof (OfVerdict how horizon tape.given claim)) (AnswersJudge how horizon tape) end low at first second k.1 (verdict_told laws n horizon how claim (omega (arith, low)) proof gives k.0 end at printed)
 
   pub is_no_proof : TaskLaws → IsDue → (text domain problem proof : List ℕ) (horizon : ℕ) (how : Stepping) → status ≡ 3 → Printed before after text → requested words ≡ Some (judges domain problem horizon proof how)
-      → OfTaken heard hears domain problem (OrNoTask text (OfVerdict how horizon tape.given.1 (IsNoProof horizon text)))
-  is_no_proof laws due text domain problem proof horizon how three put is = of_taken 3 (judges domain problem horizon proof how) (OrNoTask text (OfVerdict how horizon tape.given.1 (IsNoProof horizon text))) (omega arith) due three is step
+      → OfTaken heard hears domain problem (OrNoTask text (WhenRead tape.before tape.given proof (OfVerdict how horizon tape.given (IsNoProof horizon text))))
+  is_no_proof laws due text domain problem proof horizon how three put is = of_taken 3 (judges domain problem horizon proof how) (OrNoTask text (WhenRead tape.before tape.given proof (OfVerdict how horizon tape.given (IsNoProof horizon text)))) (omega arith) due three is step
     where
       tells : (verdict : Verdict) → (verdict ≡ verdicts.More → ⊥) → status_of (ended_by horizon verdict) ≡ 3 → after ≡ appended before (text_of (ended_by horizon verdict)) → IsNoProof horizon text verdict
       tells verdict ended at printed = (verdict_three horizon verdict at, printed_is before after text (text_of (ended_by horizon verdict)) put printed)
 
       step : (end : Ended) → status_of end ≡ 3 → after ≡ appended before (text_of end) → (first second : List ℕ) → Answers tape (judges domain problem horizon proof how) end first second
-          → OrNoTask text (OfVerdict how horizon tape.given.1 (IsNoProof horizon text)) first second
+          → OrNoTask text (WhenRead tape.before tape.given proof (OfVerdict how horizon tape.given (IsNoProof horizon text))) first second
       step end at printed first second (inl un) = not_unread 3 end (omega arith) at un.0 un.1 un.2
       step end at printed first second (inr k) =
-          or_ready text (OfVerdict how horizon tape.given.1 (IsNoProof horizon text)) (AnswersJudge how horizon tape) end (printed_is before after text (text_of end) put printed) first second k.1
-          (verdict_told laws 3 horizon how (IsNoProof horizon text) (omega arith) tells end at printed)
+          or_ready text (WhenRead tape.before tape.given proof (OfVerdict how horizon tape.given (IsNoProof horizon text))) (AnswersJudge how horizon tape) end (printed_is before after text (text_of end) put printed) first second k.1
+          (verdict_told laws 3 horizon how (IsNoProof horizon text) (omega arith) proof tells k.0 end at printed)
 
   pub is_accepted : TaskLaws → IsDue → (domain problem proof : List ℕ) (horizon : ℕ) (how : Stepping) → status ≡ 0 → requested words ≡ Some (judges domain problem horizon proof how)
-      → OfFiles heard hears domain problem (OfVerdict how horizon tape.given.1 IsAccepted)
+      → OfFiles heard hears domain problem (WhenRead tape.before tape.given proof (OfVerdict how horizon tape.given IsAccepted))
   is_accepted laws due domain problem proof horizon how zero is = of_verdict laws 0 domain problem proof horizon how IsAccepted (omega arith) due zero is (λ verdict ended at printed. verdict_zero horizon verdict at)
 
   pub is_rejected : TaskLaws → IsDue → (text domain problem proof : List ℕ) (horizon : ℕ) (how : Stepping) → status ≡ 1 → Printed before after text → requested words ≡ Some (judges domain problem horizon proof how)
-      → OfFiles heard hears domain problem (OfVerdict how horizon tape.given.1 (IsRejected horizon text))
+      → OfFiles heard hears domain problem (WhenRead tape.before tape.given proof (OfVerdict how horizon tape.given (IsRejected horizon text)))
   is_rejected laws due text domain problem proof horizon how one put is =
       of_verdict laws 1 domain problem proof horizon how (IsRejected horizon text) (omega arith) due one is
       (λ verdict ended at printed. (verdict_one horizon verdict ended at, printed_is before after text (text_of (ended_by horizon verdict)) put printed))
@@ -331,13 +348,22 @@ module _ (heard hears : List Heard) (failed fails : List (List ℕ)) (tape : Tap
       → OfFiles heard hears domain problem (TellsFormula how horizon text)
   is_told laws due text domain problem horizon how zero printed is =
       of_request 0 (formulas domain problem horizon how) (TellsFormula how horizon text) (omega arith) due zero is
-      (λ end at put first second k. of_ready 0 (TellsFormula how horizon text) (AnswersFormula how horizon) end (omega arith) at first second k (told end at (printed_is before after text (text_of end) printed put)))
+      (λ end at put first second k. of_ready 0 (TellsFormula how horizon text) (AnswersFormula how horizon) end (omega arith) at first second k.1 (told end at (printed_is before after text (text_of end) printed put)))
     where
       told : (end : Ended) → status_of end ≡ 0 → text ≡ text_of end → (task : Parts) (g : Grounded) → IsReady task g → AnswersFormula how horizon task g end → TellsFormula how horizon text task
       told end at same task g is (too_large plain_end over e) = not_limit 0 how horizon g end (omega arith) at plain_end over e
       told end at same task g is (formula k) =
           claims.of_grounded laws task g is k.clauses k.components k.ordered (λ h clauses components. text ≡ formula_text (word_of how) horizon (formula_at (places_by how) (form_of h.task clauses components) horizon))
           (listed_is text _ end k.holds same)
+
+  -- for a formula the tape is as it was
+  pub is_untaken : IsDue → (domain problem : List ℕ) (horizon : ℕ) (how : Stepping) → status ≡ 0 → requested words ≡ Some (formulas domain problem horizon how) → tape.given ≡ tape.before
+  is_untaken due domain problem horizon how zero is =
+      let d = due_at 0 due zero (omega arith) in
+      elim (comes_for (formulas domain problem horizon how) d.0 is d.2) [
+        | inl stops ↦ low_only 0 d.0 (omega arith) d.1 domain problem stops
+        | inr taken ↦ taken.3.0
+      ]
 
   pub is_planned : PlanLaws → IsDue → (text domain problem name : List ℕ) (horizon : ℕ) (how : Stepping) → status ≡ 0 → Printed before after text → requested words ≡ Some (models domain problem horizon name how)
       → OfFiles heard hears domain problem (PlanRunsIn how horizon text)
@@ -362,68 +388,73 @@ module _ (heard hears : List Heard) (failed fails : List (List ℕ)) (tape : Tap
   -- ---- models
 
   -- What an ending tells of a model's text, by its status.
-  module _ (laws : TaskLaws) (how : Stepping) (horizon : ℕ) (text : List ℕ) (task : Parts) (g : Grounded) (ready_is : IsReady task g) where
-    abbrev bytes : List ℕ
-    bytes = tape.given.1
+  module _ (laws : TaskLaws) (how : Stepping) (horizon : ℕ) (name text : List ℕ) (opened : HasOpened tape name) (task : Parts) (g : Grounded) (ready_is : IsReady task g) where
+    abbrev given : Given
+    given = tape.given
 
-    tells_model : (end : Ended) → status_of end ≡ 0 → text ≡ text_of end → AnswersModel how horizon tape task g end → TellsModel how horizon bytes text task
+    once : (given.reading ≡ Lost → ⊥) → IsReadOnce tape.before given name
+    once sound = record { opened = opened; sound = sound }
+
+    tells_model : (end : Ended) → status_of end ≡ 0 → text ≡ text_of end → AnswersModel how horizon tape task g end → WhenRead tape.before given name (TellsModel how horizon given text) task
     tells_model end at same (too_large plain_end over e) = not_limit 0 how horizon g end (omega arith) at plain_end over e
     tells_model end at same (model tolds.Unread known small e) = absurd (let five = ap status_of e in omega (arith, five, at))
     tells_model end at same (model (tolds.NoText place) known small e) = absurd (let three = ap status_of e in omega (arith, three, at))
     tells_model end at same (model (tolds.NoModel clause) known small e) = absurd (let one = ap status_of e in omega (arith, one, at))
     tells_model end at same (model (tolds.Plan steps) known small e) =
-        let h = known.holds in
-        claims.of_grounded laws task g ready_is known.clauses known.components known.ordered (IsModelTold how horizon bytes text task)
-        (h.0, h.1, h.2, listed_is text _ end e same ∙ ap (plan_text task g horizon) h.3)
+        let h = known.holds in (
+          once h.1.sound,
+          claims.of_grounded laws task g ready_is known.clauses known.components known.ordered (IsModelTold how horizon given text task)
+              (h.0, h.1, h.2, listed_is text _ end e same ∙ ap (plan_text task g horizon) h.3),
+        )
 
-    tells_no_model : (end : Ended) → status_of end ≡ 1 → text ≡ text_of end → AnswersModel how horizon tape task g end → TellsNoModel how horizon bytes text task
+    tells_no_model : (end : Ended) → status_of end ≡ 1 → text ≡ text_of end → AnswersModel how horizon tape task g end → WhenRead tape.before given name (TellsNoModel how horizon given text) task
     tells_no_model end at same (too_large plain_end over e) = not_limit 1 how horizon g end (omega arith) at plain_end over e
     tells_no_model end at same (model tolds.Unread known small e) = absurd (let five = ap status_of e in omega (arith, five, at))
     tells_no_model end at same (model (tolds.NoText place) known small e) = absurd (let three = ap status_of e in omega (arith, three, at))
     tells_no_model end at same (model (tolds.Plan steps) known small e) = absurd (let zero = ap status_of e in omega (arith, zero, at))
     tells_no_model end at same (model (tolds.NoModel clause) known small e) =
         let h = known.holds in
-        claims.of_grounded laws task g ready_is known.clauses known.components known.ordered (IsNoModelTold how horizon bytes text task) (h.0, clause, h.1, h.2, same ∙ ap text_of e)
+        (once h.1.sound, claims.of_grounded laws task g ready_is known.clauses known.components known.ordered (IsNoModelTold how horizon given text task) (h.0, clause, h.1, h.2, same ∙ ap text_of e))
 
-    tells_no_text : (end : Ended) → status_of end ≡ 3 → text ≡ text_of end → AnswersModel how horizon tape task g end → TellsNoText how horizon bytes text task
+    tells_no_text : (end : Ended) → status_of end ≡ 3 → text ≡ text_of end → AnswersModel how horizon tape task g end → WhenRead tape.before given name (TellsNoText how horizon given text) task
     tells_no_text end at same (too_large plain_end over e) = not_limit 3 how horizon g end (omega arith) at plain_end over e
     tells_no_text end at same (model tolds.Unread known small e) = absurd (let five = ap status_of e in omega (arith, five, at))
     tells_no_text end at same (model (tolds.NoModel clause) known small e) = absurd (let one = ap status_of e in omega (arith, one, at))
     tells_no_text end at same (model (tolds.Plan steps) known small e) = absurd (let zero = ap status_of e in omega (arith, zero, at))
     tells_no_text end at same (model (tolds.NoText place) known small e) =
-        claims.of_grounded laws task g ready_is known.clauses known.components known.ordered (IsNoTextTold how horizon bytes text task) (place, known.holds, same ∙ ap text_of e)
+        (once known.holds.sound, claims.of_grounded laws task g ready_is known.clauses known.components known.ordered (IsNoTextTold how horizon given text task) (place, known.holds, same ∙ ap text_of e))
 
   -- no model that could not be opened has such a status
   unopened : {A : Type 0} (n : ℕ) (end : Ended) → n ≤ 3 → status_of end ≡ n → end ≡ Unread → A
   unopened n end low at e = absurd (let five = ap status_of e in omega (arith, five, at, low))
 
   of_model : (n : ℕ) (text domain problem name : List ℕ) (horizon : ℕ) (how : Stepping) (claim : Parts → Type 0) → n ≤ 1 → IsDue → status ≡ n → Printed before after text → requested words ≡ Some (models domain problem horizon name how)
-      → ((task : Parts) (g : Grounded) → IsReady task g → (end : Ended) → status_of end ≡ n → text ≡ text_of end → AnswersModel how horizon tape task g end → claim task) → OfFiles heard hears domain problem claim
+      → (HasOpened tape name → (task : Parts) (g : Grounded) → IsReady task g → (end : Ended) → status_of end ≡ n → text ≡ text_of end → AnswersModel how horizon tape task g end → claim task) → OfFiles heard hears domain problem claim
   of_model n text domain problem name horizon how claim low due here printed is gives = of_request n (models domain problem horizon name how) claim (omega (arith, low)) due here is step
     where
       step : (end : Ended) → status_of end ≡ n → after ≡ appended before (text_of end) → (first second : List ℕ) → Answers tape (models domain problem horizon name how) end first second → (task : Parts) × AreTask first second task × claim task
       step end at put first second (inl un) = unopened n end (omega (arith, low)) at un.0
-      step end at put first second (inr k) = of_ready n claim (AnswersModel how horizon tape) end low at first second k.1 (λ task g ready_is. gives task g ready_is end at (printed_is before after text (text_of end) printed put))
+      step end at put first second (inr k) = of_ready n claim (AnswersModel how horizon tape) end low at first second k.1 (λ task g ready_is. gives k.0 task g ready_is end at (printed_is before after text (text_of end) printed put))
 
   pub is_model_told : TaskLaws → IsDue → (text domain problem name : List ℕ) (horizon : ℕ) (how : Stepping) → status ≡ 0 → Printed before after text → requested words ≡ Some (models domain problem horizon name how)
-      → OfFiles heard hears domain problem (TellsModel how horizon tape.given.1 text)
+      → OfFiles heard hears domain problem (WhenRead tape.before tape.given name (TellsModel how horizon tape.given text))
   is_model_told laws due text domain problem name horizon how zero printed is =
-      of_model 0 text domain problem name horizon how (TellsModel how horizon tape.given.1 text) (omega arith) due zero printed is (tells_model laws how horizon text)
+      of_model 0 text domain problem name horizon how (WhenRead tape.before tape.given name (TellsModel how horizon tape.given text)) (omega arith) due zero printed is (λ opened. tells_model laws how horizon name text opened)
 
   pub is_no_model : TaskLaws → IsDue → (text domain problem name : List ℕ) (horizon : ℕ) (how : Stepping) → status ≡ 1 → Printed before after text → requested words ≡ Some (models domain problem horizon name how)
-      → OfFiles heard hears domain problem (TellsNoModel how horizon tape.given.1 text)
+      → OfFiles heard hears domain problem (WhenRead tape.before tape.given name (TellsNoModel how horizon tape.given text))
   is_no_model laws due text domain problem name horizon how one printed is =
-      of_model 1 text domain problem name horizon how (TellsNoModel how horizon tape.given.1 text) (omega arith) due one printed is (tells_no_model laws how horizon text)
+      of_model 1 text domain problem name horizon how (WhenRead tape.before tape.given name (TellsNoModel how horizon tape.given text)) (omega arith) due one printed is (λ opened. tells_no_model laws how horizon name text opened)
 
   pub is_no_text : TaskLaws → IsDue → (text domain problem name : List ℕ) (horizon : ℕ) (how : Stepping) → status ≡ 3 → Printed before after text → requested words ≡ Some (models domain problem horizon name how)
-      → OfTaken heard hears domain problem (OrNoTask text (TellsNoText how horizon tape.given.1 text))
-  is_no_text laws due text domain problem name horizon how three printed is = of_taken 3 (models domain problem horizon name how) (OrNoTask text (TellsNoText how horizon tape.given.1 text)) (omega arith) due three is step
+      → OfTaken heard hears domain problem (OrNoTask text (WhenRead tape.before tape.given name (TellsNoText how horizon tape.given text)))
+  is_no_text laws due text domain problem name horizon how three printed is = of_taken 3 (models domain problem horizon name how) (OrNoTask text (WhenRead tape.before tape.given name (TellsNoText how horizon tape.given text))) (omega arith) due three is step
     where
-      step : (end : Ended) → status_of end ≡ 3 → after ≡ appended before (text_of end) → (first second : List ℕ) → Answers tape (models domain problem horizon name how) end first second → OrNoTask text (TellsNoText how horizon tape.given.1 text) first second
+      step : (end : Ended) → status_of end ≡ 3 → after ≡ appended before (text_of end) → (first second : List ℕ) → Answers tape (models domain problem horizon name how) end first second → OrNoTask text (WhenRead tape.before tape.given name (TellsNoText how horizon tape.given text)) first second
       step end at put first second (inl un) = unopened 3 end (omega arith) at un.0
       step end at put first second (inr k) =
           let told = printed_is before after text (text_of end) printed put in
-          or_ready text (TellsNoText how horizon tape.given.1 text) (AnswersModel how horizon tape) end told first second k.1 (λ task g ready_is. tells_no_text laws how horizon text task g ready_is end at told)
+          or_ready text (WhenRead tape.before tape.given name (TellsNoText how horizon tape.given text)) (AnswersModel how horizon tape) end told first second k.1 (λ task g ready_is. tells_no_text laws how horizon name text k.0 task g ready_is end at told)
 
   -- ---- words and faults
 

@@ -1,5 +1,5 @@
 -- What a domain and a problem, and a proof, come to for the judge.
-use Rattle.std.specs.Prelude.{◌≡◌, ◌<◌, ℕ, Bool, List, codes, Result}
+use Rattle.std.specs.Prelude.{◌≡◌, ◌≢◌, ◌<◌, ℕ, Bool, List, [], ◌∷◌, ◌++◌, codes, Result}
 use Rattle.std.specs.List.{AllByRecursion}
 use Rattle.clause_base.specs.Formula.{Cnf, IsModel, IsUnsatisfiable, assignment_of}
 use Rattle.sat_text.specs.Dimacs.{formula_text}
@@ -9,6 +9,7 @@ use Rattle.grounding_defs.specs.Grounded.{Grounded}
 use Rattle.pd_model.specs.declared.parts.Parts.{Parts}
 use Rattle.pl_io.specs.Outside.{Rose}
 use Rattle.pl_io.specs.Tape as tapes
+use Rattle.pl_io.specs.declared.tape.Reading.TheVariants.{Lost}
 use Rattle.pl_io.specs.declared.outside.TakeError.{TakeError}
 use Rattle.pl_io.specs.declared.outside.TakeError.TheVariants as takes
 use Rattle.step_laws.specs.Form.{OrderedTask, AreSets, steps_at}
@@ -16,7 +17,7 @@ use Rattle.step_encoding.specs.Limits.{most_literals}
 use Rattle.step_encoding.specs.Numbers.{literals_of}
 use Rattle.step_plans.specs.Known.{IsOrdered, form_of, formula_at}
 use Rattle.sat_text.specs.FirstFalse.{IsFirstFalse}
-use Rattle.sat_text.specs.Values.{NoText as no_text, Values as values_read, model_of}
+use Rattle.sat_text.specs.Values.{Reading, NoText as no_text, Values as values_read, model_of}
 use Rattle.plan_report.specs.Report.{plan_text}
 use Rattle.plan_report.specs.Laws.{IsSmallPlan}
 use Rattle.lrat_judge.specs.Verdicts.{verdict_of}
@@ -33,7 +34,7 @@ use Rattle.plan_endings.specs.declared.stop.Stop.TheVariants.{Ends, Memory}
 use Rattle.plan_tasks.specs.Stepping.{places_by, is_plan_by}
 use Rattle.plan_tasks.specs.Tasks.{AreTask, IsReady, StopsTask}
 use Rattle.judge_top.specs.declared.ended.Ended.{Ended}
-use Rattle.judge_top.specs.declared.ended.Ended.TheVariants.{Plain, Refuted, Rejected, Syntax, NoModel, NoText, Unread}
+use Rattle.judge_top.specs.declared.ended.Ended.TheVariants.{Plain, Refuted, Rejected, TooLong, Syntax, NoModel, NoText, Unread}
 use Rattle.judge_top.specs.declared.model.Given.{Given}
 use Rattle.judge_top.specs.declared.model.Given.TheVariants as given
 use Rattle.judge_top.specs.declared.model.Told.{Told}
@@ -83,15 +84,20 @@ pub data AnswersFormula (how : Stepping) (horizon : ℕ) (task : Parts) (g : Gro
   too_large : (plain : Ending) → TellsTooMany (places_by how) horizon g.task plain → end ≡ Plain plain → AnswersFormula how horizon task g end
   formula : OfKnown g.task (λ form. end ≡ Plain (Listing (formula_text (word_of how) horizon (formula_at (places_by how) form horizon)))) → AnswersFormula how horizon task g end
 
--- What a tape did in a run: the counts of its faults before it and after it, and what it handed over of the file that was opened last.
+-- What a tape did in a run: the counts of its faults before it and after it, and what it had opened and handed over.
 pub record TapeRun : Type 0 where
   pub faults : ℕ
   pub rises : ℕ
+  pub before : tapes.Given
   pub given : tapes.Given
 
 -- the record of these counts and of what was handed over
-abbrev pub tape_run : ℕ → ℕ → tapes.Given → TapeRun
-tape_run faults rises given = record { faults = faults; rises = rises; given = given }
+abbrev pub tape_run : ℕ → ℕ → tapes.Given → tapes.Given → TapeRun
+tape_run faults rises before given = record { faults = faults; rises = rises; before = before; given = given }
+
+-- a run opened a file of this name, once, and no other
+abbrev pub HasOpened : TapeRun → List ℕ → Type 0
+HasOpened tape name = tape.given.opened ≡ tape.before.opened ++ name ∷ []
 
 -- the ending tells that the proof could not be read, and the count of a tape's faults rose
 abbrev pub IsUnread : ℕ → ℕ → Ending → Type 0
@@ -107,39 +113,51 @@ abbrev pub ended_by : ℕ → Verdict → Ended
 ended_by horizon (verdicts.Refuted entries) = Refuted horizon entries
 ended_by horizon (verdicts.Rejected line) = Rejected line
 ended_by horizon (verdicts.Syntax at) = Syntax at
+ended_by horizon (verdicts.TooLong line) = TooLong line
 ended_by horizon _ = Plain NotEmpty
 
 -- no lists of actions are a plan of so many steps
 abbrev pub HasNone : Stepping → ℕ → OrderedTask → Type 0
 HasNone how horizon form = (steps : List (List ℕ)) → AreSets (is_plan_by how) form.task (order_of form.components) steps horizon → ⊥
 
--- the verdict is the one on these bytes for the formula of a horizon
-abbrev pub IsVerdict : Stepping → ℕ → List ℕ → Verdict → OrderedTask → Type 0
-IsVerdict how horizon bytes verdict form = verdict ≡ verdict_of (formula_at (places_by how) form horizon) bytes
+-- no call that read the file failed, and the verdict is the one on the bytes of the whole file, whatever these are past those that were
+-- handed over, for a formula
+pub record IsVerdictOn (formula : Cnf) (given : tapes.Given) (verdict : Verdict) : Type 0 where
+  pub sound : given.reading ≢ Lost
+  pub is : (file : List ℕ) → tapes.IsFileOf given file → verdict ≡ verdict_of formula file
+
+-- the same for the formula of a horizon
+abbrev pub IsVerdict : Stepping → ℕ → tapes.Given → Verdict → OrderedTask → Type 0
+IsVerdict how horizon given verdict form = IsVerdictOn (formula_at (places_by how) form horizon) given verdict
 
 -- what the proof on the tape comes to: the formula is past the limit, the proof could not be read, or this is the verdict on it; where
 -- that is a refutation there is no plan of so many steps
 pub data AnswersJudge (how : Stepping) (horizon : ℕ) (tape : TapeRun) (task : Parts) (g : Grounded) (end : Ended) : Type 0 where
   too_large : (plain : Ending) → TellsTooMany (places_by how) horizon g.task plain → end ≡ Plain plain → AnswersJudge how horizon tape task g end
   unread : (plain : Ending) → IsUnread tape.faults tape.rises plain → end ≡ Plain plain → AnswersJudge how horizon tape task g end
-  judged : (verdict : Verdict) → end ≡ ended_by horizon verdict → OfKnown g.task (IsVerdict how horizon tape.given.1 verdict) → ((entries : ℕ) → verdict ≡ verdicts.Refuted entries → OfKnown g.task (HasNone how horizon))
+  judged : (verdict : Verdict) → end ≡ ended_by horizon verdict → OfKnown g.task (IsVerdict how horizon tape.given verdict) → ((entries : ℕ) → verdict ≡ verdicts.Refuted entries → OfKnown g.task (HasNone how horizon))
       → AnswersJudge how horizon tape task g end
 
 -- ---- models
 
+-- no call that read the file failed, and the bytes of the whole file, whatever these are past those that were handed over, are read as this
+pub record IsReadAs (variables : ℕ) (given : tapes.Given) (reading : Reading) : Type 0 where
+  pub sound : given.reading ≢ Lost
+  pub is : (file : List ℕ) → tapes.IsFileOf given file → model_of variables file ≡ reading
+
 -- what was read of a model's text, of the values of so many variables
 abbrev pub IsGiven : ℕ → TapeRun → Given → Type 0
 IsGiven variables tape given.Unread = Rose tape.faults tape.rises
-IsGiven variables tape (given.NoText at) = model_of variables tape.given.1 ≡ no_text at
-IsGiven variables tape (given.Values reader) = model_of variables tape.given.1 ≡ values_read reader.table.truths
+IsGiven variables tape (given.NoText at) = IsReadAs variables tape.given (no_text at)
+IsGiven variables tape (given.Values reader) = IsReadAs variables tape.given (values_read reader.table.truths)
 
 -- What was made of a model's text, over a formula, where values stand for these steps: it could not be read; it is none; its values leave
 -- a clause untrue, and this is the first; or they are a model, and these are the steps that it stands for.
 abbrev pub IsToldOf : Cnf → (List Bool → List (List ℕ)) → TapeRun → Told → Type 0
 IsToldOf cnf stands tape told.Unread = Rose tape.faults tape.rises
-IsToldOf cnf stands tape (told.NoText at) = model_of cnf.variables tape.given.1 ≡ no_text at
-IsToldOf cnf stands tape (told.NoModel clause) = (values : List Bool) × (model_of cnf.variables tape.given.1 ≡ values_read values) × IsFirstFalse (assignment_of values) cnf.clauses clause
-IsToldOf cnf stands tape (told.Plan steps) = (values : List Bool) × (model_of cnf.variables tape.given.1 ≡ values_read values) × IsModel cnf values × (steps ≡ stands values)
+IsToldOf cnf stands tape (told.NoText at) = IsReadAs cnf.variables tape.given (no_text at)
+IsToldOf cnf stands tape (told.NoModel clause) = (values : List Bool) × IsReadAs cnf.variables tape.given (values_read values) × IsFirstFalse (assignment_of values) cnf.clauses clause
+IsToldOf cnf stands tape (told.Plan steps) = (values : List Bool) × IsReadAs cnf.variables tape.given (values_read values) × IsModel cnf values × (steps ≡ stands values)
 
 -- the same over the formula of a horizon
 abbrev pub IsTold : (Task → List (List ℕ) → List (List ℕ × ℕ)) → ℕ → TapeRun → Told → OrderedTask → Type 0

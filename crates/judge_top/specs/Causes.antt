@@ -10,7 +10,7 @@ use Rattle.judge_top.specs.Seen.{Seen, formulas, judges, models, domain_of, prob
 use Rattle.judge_top.specs.Requested.{requested}
 use Rattle.judge_top.specs.declared.ended.Ended.{Ended}
 use Rattle.judge_top.specs.declared.ended.Ended.TheVariants.{Plain, Unread, Usage}
-use Rattle.judge_top.specs.Answers.{TapeRun, OnceReady, AnswersFormula, AnswersJudge, AnswersModel, IsUnread}
+use Rattle.judge_top.specs.Answers.{TapeRun, HasOpened, OnceReady, AnswersFormula, AnswersJudge, AnswersModel, IsUnread}
 
 -- the names of the domain and of the problem
 abbrev pub two_of : Seen → List (List ℕ)
@@ -32,13 +32,13 @@ module _ (tape : TapeRun) where
 
   -- what two files come to with a model of this name: it could not be opened, or they, and it, decide the ending
   abbrev pub OfModel : Stepping → ℕ → List ℕ → Ended → List ℕ → List ℕ → Type 0
-  OfModel s h name end first second = ((end ≡ Unread) × Rose tape.faults tape.rises) ⊎ ((tape.given.0 ≡ name) × OnceReady first second (AnswersModel s h tape) end)
+  OfModel s h name end first second = ((end ≡ Unread) × Rose tape.faults tape.rises) ⊎ (HasOpened tape name × OnceReady first second (AnswersModel s h tape) end)
 
   -- What the bytes of the domain and of the problem come to: the proof, or the model, could not be opened, or they, and it, decide the
-  -- ending.
+  -- ending. For a formula no file is opened on the tape, nor read.
   abbrev pub Answers : Seen → Ended → List ℕ → List ℕ → Type 0
-  Answers (formulas d p h s) end first second = OnceReady first second (AnswersFormula s h) end
-  Answers (judges d p h l s) end first second = IsUnopened end ⊎ ((tape.given.0 ≡ l) × OnceReady first second (AnswersJudge s h tape) end)
+  Answers (formulas d p h s) end first second = (tape.given ≡ tape.before) × OnceReady first second (AnswersFormula s h) end
+  Answers (judges d p h l s) end first second = IsUnopened end ⊎ (HasOpened tape l × OnceReady first second (AnswersJudge s h tape) end)
   Answers (models d p h m s) end first second = OfModel s h m end first second
 
 -- What the shelf handed over before a run and after it, the names at which it failed, and what the tape did.

@@ -3,13 +3,14 @@ use Rattle.std.specs.Prelude.{ℕ, ◌+◌, ◌<◌, ◌^◌, Bool, true, false,
 use Rattle.report_lines.specs.Lines.{joined}
 use Rattle.plan_endings.specs.Ending as plain
 use Rattle.judge_top.specs.declared.ended.Ended.{Ended}
-use Rattle.judge_top.specs.declared.ended.Ended.TheVariants.{Plain, Refuted, Rejected, Syntax, NoModel, NoText, Unread, Usage}
+use Rattle.judge_top.specs.declared.ended.Ended.TheVariants.{Plain, Refuted, Rejected, TooLong, Syntax, NoModel, NoText, Unread, Usage}
 
 -- the exit status
 abbrev pub status_of : Ended → ℕ
 status_of (Plain end) = plain.status_of end
 status_of (Refuted horizon entries) = 0
 status_of (Rejected line) = 1
+status_of (TooLong line) = 4
 status_of (Syntax at) = 3
 status_of (NoModel clause) = 1
 status_of (NoText at) = 3
@@ -21,6 +22,7 @@ abbrev pub text_of : Ended → List ℕ
 text_of (Plain end) = plain.text_of end
 text_of (Refuted horizon entries) = joined ((codes "; refuted horizon " ++ (decimal horizon ++ (codes " entries " ++ decimal entries))) ∷ [])
 text_of (Rejected line) = joined ((codes "; rejected line " ++ decimal line) ∷ [])
+text_of (TooLong line) = joined ((codes "; limit line " ++ decimal line) ∷ [])
 text_of (Syntax at) = joined ((codes "; refused syntax proof " ++ decimal at) ∷ [])
 text_of (NoModel clause) = joined ((codes "; no model clause " ++ decimal (clause + 1)) ∷ [])
 text_of (NoText at) = joined ((codes "; refused syntax model " ++ decimal at) ∷ [])
@@ -39,6 +41,7 @@ abbrev pub IsSmall : Ended → Type 0
 IsSmall (Plain end) = plain.IsSmall end
 IsSmall (Refuted horizon entries) = (horizon < 2 ^ 64) × (entries < 2 ^ 64)
 IsSmall (Rejected line) = line < 2 ^ 64
+IsSmall (TooLong line) = line < 2 ^ 64
 IsSmall (Syntax at) = at < 2 ^ 64
 IsSmall (NoModel clause) = clause + 1 < 2 ^ 64
 IsSmall (NoText at) = at < 2 ^ 64

@@ -17,10 +17,11 @@ use Rattle.grounding_defs.specs.Grounded.{Grounded}
 use Rattle.plan_tasks.specs.Tasks.{AreTask, StopsTask}
 use Rattle.plan_report.specs.Report.{plan_text}
 use Rattle.sat_text.specs.FirstFalse.{IsFirstFalse}
-use Rattle.sat_text.specs.Values.{NoText as no_text, Values as values_read, model_of}
+use Rattle.sat_text.specs.Values.{NoText as no_text, Values as values_read}
+use Rattle.pl_io.specs.Tape.{Given, IsReadOnce, IsFileOf}
 use Rattle.clause_base.specs.Formula.{IsModel, assignment_of}
 use Rattle.step_laws.specs.Form.{steps_at}
-use Rattle.judge_top.specs.Answers.{word_of, ended_by}
+use Rattle.judge_top.specs.Answers.{IsReadAs, word_of, ended_by}
 
 -- the task has no step plan of so many steps, nor of fewer, and no plan of at most so many actions
 abbrev pub IsProvedNone : Stepping → ℕ → Parts → Type 0
@@ -31,11 +32,16 @@ abbrev pub TellsFormula : Stepping → ℕ → List ℕ → Parts → Type 0
 TellsFormula how horizon text task =
     OfGrounded task (λ g clauses components. text ≡ formula_text (word_of how) horizon (formula_at (places_by how) (form_of g.task clauses components) horizon))
 
--- the verdict on these bytes, for the formula of a horizon of the task, meets the claim
-abbrev pub OfVerdict : Stepping → ℕ → List ℕ → (Verdict → Type 0) → Parts → Type 0
-OfVerdict how horizon bytes claim task = OfGrounded task (λ g clauses components. claim (verdict_of (formula_at (places_by how) (form_of g.task clauses components) horizon) bytes))
+-- a file of this name was opened, once and no other, each call that read it gave what came next, and the claim holds
+abbrev pub WhenRead : Given → Given → List ℕ → (Parts → Type 0) → Parts → Type 0
+WhenRead old new name claim task = IsReadOnce old new name × claim task
 
--- a verdict that lines derive the empty clause
+-- the verdict on the bytes of a whole file, of which these were handed over, for the formula of a horizon of the task, meets the claim
+abbrev pub OfVerdict : Stepping → ℕ → Given → (Verdict → Type 0) → Parts → Type 0
+OfVerdict how horizon given claim task =
+    OfGrounded task (λ g clauses components. (file : List ℕ) → IsFileOf given file → claim (verdict_of (formula_at (places_by how) (form_of g.task clauses components) horizon) file))
+
+-- a verdict that the empty clause is one of the formula's, or that lines derive it
 abbrev pub IsAccepted : Verdict → Type 0
 IsAccepted verdict = (entries : ℕ) × (verdict ≡ Refuted entries)
 
@@ -45,36 +51,36 @@ IsRejected horizon text verdict = (((line : ℕ) × (verdict ≡ Rejected line))
 
 -- ---- models
 
--- What the bytes of a model's text come to for a horizon, and the text that tells of it.
-module _ (how : Stepping) (horizon : ℕ) (bytes text : List ℕ) (task : Parts) where
+-- What the bytes of a whole file, of which some were handed over, come to as a model's text for a horizon, and the text that tells of it.
+module _ (how : Stepping) (horizon : ℕ) (given : Given) (text : List ℕ) (task : Parts) where
   -- they tell values that are a model of the formula, and the text tells the steps that these stand for
   abbrev pub IsModelTold : Grounded → List (ℕ × ℕ) → List (List ℕ) → Type 0
   IsModelTold g clauses components =
-      (values : List Bool) × (model_of (formula_at (places_by how) (form_of g.task clauses components) horizon).variables bytes ≡ values_read values)
+      (values : List Bool) × IsReadAs (formula_at (places_by how) (form_of g.task clauses components) horizon).variables given (values_read values)
       × IsModel (formula_at (places_by how) (form_of g.task clauses components) horizon) values
       × (text ≡ plan_text task g horizon (steps_at (form_of g.task clauses components) (places_by how g.task components) horizon (assignment_of values)))
 
   -- they tell values that leave a clause of the formula untrue, and the text tells the first
   abbrev pub IsNoModelTold : Grounded → List (ℕ × ℕ) → List (List ℕ) → Type 0
   IsNoModelTold g clauses components =
-      (values : List Bool) × (clause : ℕ) × (model_of (formula_at (places_by how) (form_of g.task clauses components) horizon).variables bytes ≡ values_read values)
+      (values : List Bool) × (clause : ℕ) × IsReadAs (formula_at (places_by how) (form_of g.task clauses components) horizon).variables given (values_read values)
       × IsFirstFalse (assignment_of values) (formula_at (places_by how) (form_of g.task clauses components) horizon).clauses clause × (text ≡ text_of (NoModel clause))
 
   -- they are no text of a model, and the text tells where
   abbrev pub IsNoTextTold : Grounded → List (ℕ × ℕ) → List (List ℕ) → Type 0
-  IsNoTextTold g clauses components = (at : ℕ) × (model_of (formula_at (places_by how) (form_of g.task clauses components) horizon).variables bytes ≡ no_text at) × (text ≡ text_of (NoText at))
+  IsNoTextTold g clauses components = (at : ℕ) × IsReadAs (formula_at (places_by how) (form_of g.task clauses components) horizon).variables given (no_text at) × (text ≡ text_of (NoText at))
 
 -- the same of a task
-abbrev pub TellsModel : Stepping → ℕ → List ℕ → List ℕ → Parts → Type 0
-TellsModel how horizon bytes text task = OfGrounded task (IsModelTold how horizon bytes text task)
+abbrev pub TellsModel : Stepping → ℕ → Given → List ℕ → Parts → Type 0
+TellsModel how horizon given text task = OfGrounded task (IsModelTold how horizon given text task)
 
 -- the values that the bytes tell leave a clause of the formula untrue, and the text tells the first
-abbrev pub TellsNoModel : Stepping → ℕ → List ℕ → List ℕ → Parts → Type 0
-TellsNoModel how horizon bytes text task = OfGrounded task (IsNoModelTold how horizon bytes text task)
+abbrev pub TellsNoModel : Stepping → ℕ → Given → List ℕ → Parts → Type 0
+TellsNoModel how horizon given text task = OfGrounded task (IsNoModelTold how horizon given text task)
 
 -- the bytes are no text of a model, and the text tells where
-abbrev pub TellsNoText : Stepping → ℕ → List ℕ → List ℕ → Parts → Type 0
-TellsNoText how horizon bytes text task = OfGrounded task (IsNoTextTold how horizon bytes text task)
+abbrev pub TellsNoText : Stepping → ℕ → Given → List ℕ → Parts → Type 0
+TellsNoText how horizon given text task = OfGrounded task (IsNoTextTold how horizon given text task)
 
 -- ---- refusals
 

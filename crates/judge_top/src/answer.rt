@@ -1,6 +1,7 @@
 //! What the bytes of a domain and a problem, and a proof or a model, come to.
-ghost use Rattle.std.specs.Prelude.{◌≡◌, ◌≤◌, [], length, IfOk};
+ghost use Rattle.std.specs.Prelude.{◌≡◌, ◌≤◌, length, IfOk};
 ghost use Rattle.containers.specs.Limits.{most_bytes};
+ghost use Rattle.pl_io.specs.Tape.{IsAtFront};
 ghost use Rattle.plan_endings.specs.Ends.{OnlyMemory};
 ghost use Rattle.judge_top.specs.Answers.{EndsWith, tape_run, OnceReady, AnswersFormula, AnswersJudge, AnswersModel, IsBelow, IsSmallTold, ended_by, ended_with};
 ghost use Rattle.horizon_rates.specs.Limits.{last_horizon};
@@ -53,9 +54,9 @@ pub fn answer_judge<H: Threads + Sync, T: Tape>(
     requires domain_fits { length domain.now ≤ most_bytes }
     requires problem_fits { length problem.now ≤ most_bytes }
     requires horizon { horizon ≤ last_horizon }
-    requires opened { (T.given tape.old).1 ≡ [] }
-    ensures ended { EndsWith (λ end. OnceReady domain.now problem.now (AnswersJudge steps horizon (tape_run (T.faults tape.old) (T.faults tape.new) (T.given tape.new))) end) result }
-    ensures named { (T.given tape.new).0 ≡ (T.given tape.old).0 }
+    requires front { IsAtFront (T.given tape.old) }
+    ensures ended { EndsWith (λ end. OnceReady domain.now problem.now (AnswersJudge steps horizon (tape_run (T.faults tape.old) (T.faults tape.new) (T.given tape.old) (T.given tape.new))) end) result }
+    ensures opened { (T.given tape.new).opened ≡ (T.given tape.old).opened }
     ensures later { T.faults tape.old ≤ T.faults tape.new }
 {
     let ready = read_ready(alloc, domain, problem)?;
@@ -72,6 +73,7 @@ fn ended(horizon: u32, verdict: Verdict) -> Ended
         Verdict::Refuted { entries } => Ended::Refuted { horizon, entries },
         Verdict::Rejected { line } => Ended::Rejected { line },
         Verdict::Syntax { at } => Ended::Syntax { at },
+        Verdict::TooLong { line } => Ended::TooLong { line },
         Verdict::NotEmpty | Verdict::More => Ended::Plain(Ending::NotEmpty),
     }
 }
@@ -89,9 +91,9 @@ pub fn answer_model<H: Threads + Sync, T: Tape>(
     requires domain_fits { length domain.now ≤ most_bytes }
     requires problem_fits { length problem.now ≤ most_bytes }
     requires horizon { horizon ≤ last_horizon }
-    requires opened { (T.given tape.old).1 ≡ [] }
-    ensures ended { EndsWith (OnceReady domain.now problem.now (AnswersModel steps horizon (tape_run (T.faults tape.old) (T.faults tape.new) (T.given tape.new)))) result }
-    ensures named { (T.given tape.new).0 ≡ (T.given tape.old).0 }
+    requires front { IsAtFront (T.given tape.old) }
+    ensures ended { EndsWith (OnceReady domain.now problem.now (AnswersModel steps horizon (tape_run (T.faults tape.old) (T.faults tape.new) (T.given tape.old) (T.given tape.new)))) result }
+    ensures opened { (T.given tape.new).opened ≡ (T.given tape.old).opened }
     ensures later { T.faults tape.old ≤ T.faults tape.new }
 {
     let ready = read_ready(alloc, domain, problem)?;

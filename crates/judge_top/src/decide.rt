@@ -28,7 +28,7 @@ pub fn decide<H: Threads + Sync, S: Shelf, T: Tape>(
     shelf: &mut S,
     tape: &mut T,
 ) -> Result<Ended, Stop>
-    ensures cause { EndsWith (Comes (S.heard shelf.old) (S.heard shelf.new) (S.failed shelf.old) (S.failed shelf.new) (tape_run (T.faults tape.old) (T.faults tape.new) (T.given tape.new)) (map string_bytes words.now)) result }
+    ensures cause { EndsWith (Comes (S.heard shelf.old) (S.heard shelf.new) (S.failed shelf.old) (S.failed shelf.new) (tape_run (T.faults tape.old) (T.faults tape.new) (T.given tape.old) (T.given tape.new)) (map string_bytes words.now)) result }
     ensures no_command { command_named (map string_bytes words.now) ≡ None → result ≡ Ok Ended.Usage }
     ensures untouched { requested (map string_bytes words.now) ≡ None → shelf.new ≡ shelf.old }
     ensures told { S.told shelf.new ≡ S.told shelf.old }
@@ -53,7 +53,7 @@ fn decide_request<H: Threads + Sync, S: Shelf, T: Tape>(
     tape: &mut T,
 ) -> Result<Ended, Stop>
     requires { horizon_of (seen request.now) ≤ last_horizon }
-    ensures cause { EndsWith (ComesFor (S.heard shelf.old) (S.heard shelf.new) (S.failed shelf.old) (S.failed shelf.new) (tape_run (T.faults tape.old) (T.faults tape.new) (T.given tape.new)) (seen request.now)) result }
+    ensures cause { EndsWith (ComesFor (S.heard shelf.old) (S.heard shelf.new) (S.failed shelf.old) (S.failed shelf.new) (tape_run (T.faults tape.old) (T.faults tape.new) (T.given tape.old) (T.given tape.new)) (seen request.now)) result }
     ensures told { S.told shelf.new ≡ S.told shelf.old }
     ensures lacks { S.lacks shelf.new ≡ S.lacks shelf.old }
     ensures agrees { Agrees (S.told shelf.old) (S.lacks shelf.old) (S.heard shelf.old) (S.heard shelf.new) }
@@ -81,7 +81,7 @@ fn answer<H: Threads + Sync, T: Tape>(
     requires domain_fits { length first.now ≤ most_bytes }
     requires problem_fits { length second.now ≤ most_bytes }
     requires horizon { horizon_of (seen request.now) ≤ last_horizon }
-    ensures cause { EndsWith (λ end. Answers (tape_run (T.faults tape.old) (T.faults tape.new) (T.given tape.new)) (seen request.now) end first.now second.now) result }
+    ensures cause { EndsWith (λ end. Answers (tape_run (T.faults tape.old) (T.faults tape.new) (T.given tape.old) (T.given tape.new)) (seen request.now) end first.now second.now) result }
     ensures tape_faults { T.faults tape.old ≤ T.faults tape.new }
 {
     match request {
@@ -122,7 +122,7 @@ fn answer_opened<H: Threads + Sync, T: Tape>(
     requires domain_fits { length first.now ≤ most_bytes }
     requires problem_fits { length second.now ≤ most_bytes }
     requires horizon { horizon ≤ last_horizon }
-    ensures cause { EndsWith (λ end. OfModel (tape_run (T.faults tape.old) (T.faults tape.new) (T.given tape.new)) steps horizon model.now end first.now second.now) result }
+    ensures cause { EndsWith (λ end. OfModel (tape_run (T.faults tape.old) (T.faults tape.new) (T.given tape.old) (T.given tape.new)) steps horizon model.now end first.now second.now) result }
     ensures tape_faults { T.faults tape.old ≤ T.faults tape.new }
 {
     match tape.open(model) {

@@ -20,6 +20,8 @@ pub enum Ended {
     Refuted { horizon: u32, entries: u64 },
     /// This line of a proof, counted from 1, is the first that does not follow.
     Rejected { line: u64 },
+    /// This line of a proof, counted from 1, has more bytes than a line may have.
+    TooLong { line: u64 },
     /// A line of a proof is none: the offset of its first byte.
     Syntax { at: u64 },
     /// This clause of a formula, counted from 0, is the first that the values of a model's file do not make true.
@@ -54,6 +56,7 @@ impl RunEnd for Ended {
             Ended::Refuted { .. } => 0,
             Ended::Rejected { .. } | Ended::NoModel { .. } => 1,
             Ended::Syntax { .. } | Ended::NoText { .. } => 3,
+            Ended::TooLong { .. } => 4,
             Ended::Unread => 5,
             Ended::Usage => 7,
         }
@@ -67,6 +70,7 @@ impl RunEnd for Ended {
                 of_numbers(alloc, "; refuted horizon ", horizon, " entries ", entries)
             }
             Ended::Rejected { line } => of_number(alloc, "; rejected line ", line),
+            Ended::TooLong { line } => of_number(alloc, "; limit line ", line),
             Ended::Syntax { at } => of_number(alloc, "; refused syntax proof ", at),
             Ended::NoModel { clause } => {
                 let clause = u64::from(clause) + 1;

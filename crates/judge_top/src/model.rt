@@ -2,12 +2,13 @@
 ghost use Rattle.std.specs.Prelude.{◌≡◌, ◌≤◌, ◌<◌, ℕ, [], length, IfOk};
 ghost use Rattle.clause_base.specs.Formula.{IsModel};
 ghost use Rattle.pl_io.specs.Outside.{Rose};
+ghost use Rattle.pl_io.specs.Tape.{Given as GivenBytes, IsAtFront, given_more};
 ghost use Rattle.plan_endings.specs.Ends.{StopsBy};
 ghost use Rattle.plan_tasks.specs.Stepping.{places_by};
 ghost use Rattle.step_encoding.specs.{Limits.most_literals, Numbers.literals_of};
-ghost use Rattle.sat_text.specs.Values.{Values as values_read, model_of};
+ghost use Rattle.sat_text.specs.Values.{Values as values_read};
 ghost use Rattle.sat_text.specs.Stands.{HasRead};
-ghost use Rattle.judge_top.specs.Answers.{TapeRun, tape_run, OfKnown, IsTold, IsToldOf, IsBelow, IsGiven, IsTooMany, TellsTooMany};
+ghost use Rattle.judge_top.specs.Answers.{TapeRun, tape_run, IsReadAs, OfKnown, IsTold, IsToldOf, IsBelow, IsGiven, IsTooMany, TellsTooMany};
 ghost use Rattle.horizon_rates.specs.Limits.{last_horizon};
 
 use crate::formula::formula_of;
@@ -16,7 +17,7 @@ use all_steps::form::BothWays;
 use clause_base::formula::Formula;
 use containers::memory::Memory;
 use gt_core::task::Task;
-use pl_io::{TakeError, Tape};
+use pl_io::{Reading, TakeError, Tape};
 use plan_endings::stop::Stop;
 use requests::Stepping;
 use sat_text::first_false::first_false;
@@ -58,7 +59,7 @@ pub enum Given {
 
 // What the text that was read to its end is.
 fn finished(mut reader: Reader) -> Given
-    ensures { (variables : ℕ) (tape : TapeRun) → HasRead variables tape.given.1 reader → IsGiven variables tape result }
+    ensures { (variables : ℕ) (given : GivenBytes) (tape : TapeRun) → HasRead variables given.bytes reader → given.reading ≡ Reading.Goes → tape.given ≡ given_more given [] → IsGiven variables tape result }
 {
     match reader.finish() {
         Some(at) => Given::NoText { at },
@@ -68,9 +69,9 @@ fn finished(mut reader: Reader) -> Given
 
 // Reads the text that is open, of the values of so many variables, to its end, or to the first line that tells.
 fn read_given<T: Tape>(alloc: Global, variables: u32, tape: &mut T) -> Result<Given, Memory>
-    requires opened { (T.given tape.old).1 ≡ [] }
-    ensures given { IfOk result (IsGiven variables (tape_run (T.faults tape.old) (T.faults tape.new) (T.given tape.new))) }
-    ensures named { (T.given tape.new).0 ≡ (T.given tape.old).0 }
+    requires front { IsAtFront (T.given tape.old) }
+    ensures given { IfOk result (IsGiven variables (tape_run (T.faults tape.old) (T.faults tape.new) (T.given tape.old) (T.given tape.new))) }
+    ensures opened { (T.given tape.new).opened ≡ (T.given tape.old).opened }
     ensures later { T.faults tape.old ≤ T.faults tape.new }
 {
     let mut reader = Reader::new(alloc, variables)?;
@@ -102,7 +103,7 @@ fn told_values<F: StepForm>(
     requires small { literals_of (F.formula_of form.now horizon) ≤ most_literals }
     requires formula { formula.now ≡ F.formula_of form.now horizon }
     requires long { length values.now ≡ formula.now.variables }
-    ensures told { (tape : TapeRun) → model_of formula.now.variables tape.given.1 ≡ values_read values.now
+    ensures told { (tape : TapeRun) → IsReadAs formula.now.variables tape.given (values_read values.now)
         → IfOk result (IsToldOf (F.formula_of form.now horizon) (F.stands_for form.now horizon) tape) }
     ensures members { IfOk result (IsBelow (length (F.task form.now).actions)) }
 {
@@ -123,9 +124,9 @@ fn told_of<F: StepForm, T: Tape>(
     tape: &mut T,
 ) -> Result<Told, Stop>
     requires horizon { horizon ≤ last_horizon }
-    requires opened { (T.given tape.old).1 ≡ [] }
-    ensures told { IfOk result (IsToldOf (F.formula_of form.now horizon) (F.stands_for form.now horizon) (tape_run (T.faults tape.old) (T.faults tape.new) (T.given tape.new))) }
-    ensures named { (T.given tape.new).0 ≡ (T.given tape.old).0 }
+    requires front { IsAtFront (T.given tape.old) }
+    ensures told { IfOk result (IsToldOf (F.formula_of form.now horizon) (F.stands_for form.now horizon) (tape_run (T.faults tape.old) (T.faults tape.new) (T.given tape.old) (T.given tape.new))) }
+    ensures opened { (T.given tape.new).opened ≡ (T.given tape.old).opened }
     ensures members { IfOk result (IsBelow (length (F.task form.now).actions)) }
     ensures stops { StopsBy (IsTooMany (F.formula_of form.now horizon) horizon) result }
     ensures later { T.faults tape.old ≤ T.faults tape.new }
@@ -150,9 +151,9 @@ fn told_in<P: Placing, H: Threads + Sync, T: Tape>(
     tape: &mut T,
 ) -> Result<Told, Stop>
     requires horizon { horizon ≤ last_horizon }
-    requires opened { (T.given tape.old).1 ≡ [] }
-    ensures told { IfOk result (λ told. OfKnown task.now (IsTold P.places horizon (tape_run (T.faults tape.old) (T.faults tape.new) (T.given tape.new)) told)) }
-    ensures named { (T.given tape.new).0 ≡ (T.given tape.old).0 }
+    requires front { IsAtFront (T.given tape.old) }
+    ensures told { IfOk result (λ told. OfKnown task.now (IsTold P.places horizon (tape_run (T.faults tape.old) (T.faults tape.new) (T.given tape.old) (T.given tape.new)) told)) }
+    ensures opened { (T.given tape.new).opened ≡ (T.given tape.old).opened }
     ensures members { IfOk result (IsBelow (length task.now.actions)) }
     ensures stops { StopsBy (TellsTooMany P.places horizon task.now) result }
     ensures later { T.faults tape.old ≤ T.faults tape.new }
@@ -174,9 +175,9 @@ pub fn told_by<H: Threads + Sync, T: Tape>(
     tape: &mut T,
 ) -> Result<Told, Stop>
     requires horizon { horizon ≤ last_horizon }
-    requires opened { (T.given tape.old).1 ≡ [] }
-    ensures told { IfOk result (λ told. OfKnown task.now (IsTold (places_by steps) horizon (tape_run (T.faults tape.old) (T.faults tape.new) (T.given tape.new)) told)) }
-    ensures named { (T.given tape.new).0 ≡ (T.given tape.old).0 }
+    requires front { IsAtFront (T.given tape.old) }
+    ensures told { IfOk result (λ told. OfKnown task.now (IsTold (places_by steps) horizon (tape_run (T.faults tape.old) (T.faults tape.new) (T.given tape.old) (T.given tape.new)) told)) }
+    ensures opened { (T.given tape.new).opened ≡ (T.given tape.old).opened }
     ensures members { IfOk result (IsBelow (length task.now.actions)) }
     ensures stops { StopsBy (TellsTooMany (places_by steps) horizon task.now) result }
     ensures later { T.faults tape.old ≤ T.faults tape.new }

@@ -10,7 +10,7 @@ ghost use Rattle.judge_top.specs.Ended.{status_of, text_of};
 ghost use Rattle.judge_top.specs.declared.ended.Ended.{Ended};
 ghost use Rattle.judge_top.specs.Answers.{tape_run};
 ghost use Rattle.judge_top.specs.Causes.{Comes, OfTaken, HasFault, names_in};
-ghost use Rattle.judge_top.specs.Headline.{IsProvedNone, PlanRunsIn, TellsFormula, OfVerdict, IsAccepted, IsRejected, IsNoProof, TellsModel, TellsNoModel, TellsNoText, OrNoTask};
+ghost use Rattle.judge_top.specs.Headline.{IsProvedNone, PlanRunsIn, TellsFormula, WhenRead, OfVerdict, IsAccepted, IsRejected, IsNoProof, TellsModel, TellsNoModel, TellsNoText, OrNoTask};
 
 use crate::decide::decide;
 use pl_io::{Shelf, Sink, Tape};
@@ -49,47 +49,53 @@ pub fn judge<H: Threads + Sync, S: Shelf, T: Tape, K: Sink>(
         → requested (map string_bytes words.now) ≡ Some (models domain problem horizon model how)
         → OfFiles (S.heard shelf.old) (S.heard shelf.new) domain problem (PlanRunsIn how horizon text) }
 
-    // With status 0 the bytes that the tape handed over of the proof are LRAT text whose lines derive the empty clause from the formula of
-    // the horizon by reverse unit propagation, up to the first that adds it.
+    // With status 0 the proof was opened once, no call that read it failed, and its bytes are LRAT text whose lines derive the empty clause
+    // from the formula of the horizon by reverse unit propagation, up to the first that adds it; or the formula has that clause.
     ensures accepted { (domain problem proof : List ℕ) (horizon : ℕ) (how : Stepping) → result.0 ≡ 0
         → requested (map string_bytes words.now) ≡ Some (judges domain problem horizon proof how)
-        → OfFiles (S.heard shelf.old) (S.heard shelf.new) domain problem (OfVerdict how horizon (T.given tape.new).1 IsAccepted) }
+        → OfFiles (S.heard shelf.old) (S.heard shelf.new) domain problem (WhenRead (T.given tape.old) (T.given tape.new) proof (OfVerdict how horizon (T.given tape.new) IsAccepted)) }
 
-    // With status 1 they are not: the text tells the first line that does not follow, or that each follows and none is empty.
+    // With status 1 it was read so too, and its bytes are not such: the text tells the first line that does not follow, or that each
+    // follows and none is empty. That is so whatever comes after the bytes that were handed over, where its end was not told.
     ensures rejected { (text domain problem proof : List ℕ) (horizon : ℕ) (how : Stepping) → result.0 ≡ 1 → Printed (K.taken sink.old) (K.taken sink.new) text
         → requested (map string_bytes words.now) ≡ Some (judges domain problem horizon proof how)
-        → OfFiles (S.heard shelf.old) (S.heard shelf.new) domain problem (OfVerdict how horizon (T.given tape.new).1 (IsRejected horizon text)) }
+        → OfFiles (S.heard shelf.old) (S.heard shelf.new) domain problem (WhenRead (T.given tape.old) (T.given tape.new) proof (OfVerdict how horizon (T.given tape.new) (IsRejected horizon text))) }
 
-    // With status 3 the domain or the problem is refused, or the proof's bytes are no LRAT text at the offset that is told.
+    // With status 3 the domain or the problem is refused, or the proof was read so, and its bytes are no LRAT text at the offset that is
+    // told.
     ensures no_proof { (text domain problem proof : List ℕ) (horizon : ℕ) (how : Stepping) → result.0 ≡ 3 → Printed (K.taken sink.old) (K.taken sink.new) text
         → requested (map string_bytes words.now) ≡ Some (judges domain problem horizon proof how)
-        → OfTaken (S.heard shelf.old) (S.heard shelf.new) domain problem (OrNoTask text (OfVerdict how horizon (T.given tape.new).1 (IsNoProof horizon text))) }
+        → OfTaken (S.heard shelf.old) (S.heard shelf.new) domain problem (OrNoTask text (WhenRead (T.given tape.old) (T.given tape.new) proof (OfVerdict how horizon (T.given tape.new) (IsNoProof horizon text)))) }
 
-    // With status 0 the bytes that the tape handed over are the text of a model, whose values satisfy the formula of the horizon, and the
-    // text tells the steps that they stand for.
+    // With status 0 the model was opened once, no call that read it failed, and its bytes are the text of a model, whose values satisfy
+    // the formula of the horizon, and the text tells the steps that they stand for.
     ensures model_told { (text domain problem model : List ℕ) (horizon : ℕ) (how : Stepping) → result.0 ≡ 0 → Printed (K.taken sink.old) (K.taken sink.new) text
         → requested (map string_bytes words.now) ≡ Some (models domain problem horizon model how)
-        → OfFiles (S.heard shelf.old) (S.heard shelf.new) domain problem (TellsModel how horizon (T.given tape.new).1 text) }
+        → OfFiles (S.heard shelf.old) (S.heard shelf.new) domain problem (WhenRead (T.given tape.old) (T.given tape.new) model (TellsModel how horizon (T.given tape.new) text)) }
 
-    // With status 1 their values leave a clause untrue, and the text tells the first.
+    // With status 1 it was read so too, its values leave a clause untrue, and the text tells the first.
     ensures no_model { (text domain problem model : List ℕ) (horizon : ℕ) (how : Stepping) → result.0 ≡ 1 → Printed (K.taken sink.old) (K.taken sink.new) text
         → requested (map string_bytes words.now) ≡ Some (models domain problem horizon model how)
-        → OfFiles (S.heard shelf.old) (S.heard shelf.new) domain problem (TellsNoModel how horizon (T.given tape.new).1 text) }
+        → OfFiles (S.heard shelf.old) (S.heard shelf.new) domain problem (WhenRead (T.given tape.old) (T.given tape.new) model (TellsNoModel how horizon (T.given tape.new) text)) }
 
-    // With status 3 the domain or the problem is refused, or they are no text of a model, and the text tells where.
+    // With status 3 the domain or the problem is refused, or the model was read so, its bytes are no text of one, and the text tells where.
     ensures no_text { (text domain problem model : List ℕ) (horizon : ℕ) (how : Stepping) → result.0 ≡ 3 → Printed (K.taken sink.old) (K.taken sink.new) text
         → requested (map string_bytes words.now) ≡ Some (models domain problem horizon model how)
-        → OfTaken (S.heard shelf.old) (S.heard shelf.new) domain problem (OrNoTask text (TellsNoText how horizon (T.given tape.new).1 text)) }
+        → OfTaken (S.heard shelf.old) (S.heard shelf.new) domain problem (OrNoTask text (WhenRead (T.given tape.old) (T.given tape.new) model (TellsNoText how horizon (T.given tape.new) text))) }
+
+    // For a formula no file is opened on the tape, nor read.
+    ensures untaken { (domain problem : List ℕ) (horizon : ℕ) (how : Stepping) → result.0 ≡ 0
+        → requested (map string_bytes words.now) ≡ Some (formulas domain problem horizon how) → T.given tape.new ≡ T.given tape.old }
 
     // Each status has its cause, and with every status but 6 the bytes taken are exactly the text due.
     ensures due { result.0 ≢ 6 → result.0 ≢ 8 → (end : Ended) × (result.0 ≡ status_of end)
-        × Comes (S.heard shelf.old) (S.heard shelf.new) (S.failed shelf.old) (S.failed shelf.new) (tape_run (T.faults tape.old) (T.faults tape.new) (T.given tape.new)) (map string_bytes words.now) end
+        × Comes (S.heard shelf.old) (S.heard shelf.new) (S.failed shelf.old) (S.failed shelf.new) (tape_run (T.faults tape.old) (T.faults tape.new) (T.given tape.old) (T.given tape.new)) (map string_bytes words.now) end
         × (K.taken sink.new ≡ appended (K.taken sink.old) (text_of end)) }
     ensures read_fault { result.0 ≡ 5
         → HasFault (S.failed shelf.old) (S.failed shelf.new) (T.faults tape.old) (T.faults tape.new) (map string_bytes words.now) }
     ensures write_fault { result.0 ≡ 6 → Rose (K.faults sink.old) (K.faults sink.new) }
     ensures front { result.0 ≡ 6 → (end : Ended)
-        × Comes (S.heard shelf.old) (S.heard shelf.new) (S.failed shelf.old) (S.failed shelf.new) (tape_run (T.faults tape.old) (T.faults tape.new) (T.given tape.new)) (map string_bytes words.now) end
+        × Comes (S.heard shelf.old) (S.heard shelf.new) (S.failed shelf.old) (S.failed shelf.new) (tape_run (T.faults tape.old) (T.faults tape.new) (T.given tape.old) (T.given tape.new)) (map string_bytes words.now) end
         × TakesFront (K.taken sink.old) (K.taken sink.new) (text_of end) }
     ensures usage { result.0 ≡ 7 → requested (map string_bytes words.now) ≡ None }
     ensures not_taken { requested (map string_bytes words.now) ≡ None → Contains (6 ∷ 7 ∷ 8 ∷ []) result.0 }

@@ -2,10 +2,9 @@
 ghost use Rattle.std.specs.Prelude.{◌≡◌, ◌≤◌, ◌<◌, ℕ, [], length, take, Ok, None, OnOk, IfOk, IfSome};
 ghost use Rattle.clause_base.specs.Formula.{IsUnsatisfiable};
 ghost use Rattle.pl_io.specs.Outside.{Rose};
-ghost use Rattle.pl_io.specs.Tape.{given_more};
-ghost use Rattle.lrat_judge.specs.Verdicts.{verdict_of};
+ghost use Rattle.pl_io.specs.Tape.{IsAtFront, given_opened, given_more};
 ghost use Rattle.plan_endings.specs.Ends.{StopsBy};
-ghost use Rattle.judge_top.specs.Answers.{IsUnread, stop_of};
+ghost use Rattle.judge_top.specs.Answers.{IsUnread, IsVerdictOn, stop_of};
 
 use clause_base::formula::Formula;
 use lrat_judge::judge::Judge;
@@ -30,7 +29,7 @@ fn stop_of(error: TakeError) -> Stop
 
 /// Opens the file of a proof.
 pub fn open<T: Tape>(tape: &mut T, name: &str) -> Result<(), Stop>
-    ensures given { OnOk result (T.given tape.new ≡ (name.now, [])) }
+    ensures given { OnOk result (T.given tape.new ≡ given_opened (T.given tape.old) name.now) }
     ensures stops { StopsBy (IsUnread (T.faults tape.old) (T.faults tape.new)) result }
     ensures later { T.faults tape.old ≤ T.faults tape.new }
 {
@@ -45,8 +44,8 @@ fn next<T: Tape>(tape: &mut T, piece: &mut [u8]) -> Result<Option<usize>, Stop>
     requires { 0 < length piece.old }
     ensures room { length piece.new ≡ length piece.old }
     ensures bound { IfOk result (λ o. IfSome o (λ count. count ≤ length piece.new)) }
-    ensures given { IfOk result (λ o. IfSome o (λ count. T.given tape.new ≡ given_more (T.given tape.old) (take count piece.new))) }
-    ensures named { (T.given tape.new).0 ≡ (T.given tape.old).0 }
+    ensures given { IfOk result (λ o. IfSome o (λ count. (0 < count) × (T.given tape.new ≡ given_more (T.given tape.old) (take count piece.new)))) }
+    ensures opened { (T.given tape.new).opened ≡ (T.given tape.old).opened }
     ensures end { result ≡ Ok None → T.given tape.new ≡ given_more (T.given tape.old) [] }
     ensures fewer { IfOk result (λ o. IfSome o (λ count. T.pieces tape.new < T.pieces tape.old)) }
     ensures stops { StopsBy (IsUnread (T.faults tape.old) (T.faults tape.new)) result }
@@ -62,8 +61,8 @@ fn next<T: Tape>(tape: &mut T, piece: &mut [u8]) -> Result<Option<usize>, Stop>
 /// What the judge says of the proof that is open, over a formula: of a proof that is read to its end, or to the first line that tells.
 pub fn verdict_on<T: Tape>(alloc: Global, formula: &Formula, tape: &mut T) -> Result<Verdict, Stop>
     ensures refuted { (entries : ℕ) → result ≡ Ok (Verdict.Refuted entries) → IsUnsatisfiable formula.now.clauses }
-    ensures verdict { (T.given tape.old).1 ≡ [] → IfOk result (λ verdict. verdict ≡ verdict_of formula.now (T.given tape.new).1) }
-    ensures named { (T.given tape.new).0 ≡ (T.given tape.old).0 }
+    ensures verdict { IsAtFront (T.given tape.old) → IfOk result (IsVerdictOn formula.now (T.given tape.new)) }
+    ensures opened { (T.given tape.new).opened ≡ (T.given tape.old).opened }
     ensures stops { StopsBy (IsUnread (T.faults tape.old) (T.faults tape.new)) result }
     ensures later { T.faults tape.old ≤ T.faults tape.new }
 {
@@ -71,7 +70,8 @@ pub fn verdict_on<T: Tape>(alloc: Global, formula: &Formula, tape: &mut T) -> Re
     let mut piece = [0u8; PIECE];
     'reading: loop {
         let Some(count) = next(tape, &mut piece)? else {
-            return Ok(judge.finish());
+            let last = judge.finish()?;
+            return Ok(last);
         };
         match judge.take(&piece[..count])? {
             Verdict::More => {}

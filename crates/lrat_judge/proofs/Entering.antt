@@ -1,5 +1,5 @@
 -- How a checker, ids and a count stand after a line.
-use Rattle.std.proofs.Common.{arith, ◌≡◌, ◌+◌, ◌<◌, ◌≤◌, ◌||◌, not, ℕ, zero, suc, List, [], ◌∷◌, ◌++◌, length, get_or, drop, Bool, true, false, Option, Some, None, Result, Ok, Err, option_map, refl, sym, ap, ◌∙◌, subst, length-append}
+use Rattle.std.proofs.Common.{arith, ◌≡◌, ◌+◌, ◌<◌, ◌≤◌, ℕ, zero, suc, List, [], ◌∷◌, ◌++◌, length, get_or, drop, Bool, true, false, Option, Some, None, Result, Ok, Err, option_map, refl, sym, ap, ◌∙◌, subst, length-append}
 use Rattle.std.specs.Prelude.{option_and_then, nat_lt, IfOk}
 use Rattle.std.specs.List.{list_all}
 use Rattle.std.proofs.Math.ListN.{drop_of_length-le}
@@ -15,7 +15,7 @@ use Rattle.containers.specs.declared.memory.Memory.{Memory}
 use Rattle.rup_check.specs.Taken.{CheckerView, HasTaken}
 use Rattle.sat_text.specs.LratLine.{LineView, codes_of, plain_ids, is_foreign}
 use Rattle.lrat_judge.specs.Judged.{counted}
-use Rattle.lrat_judge.specs.Follow.{Known, number_named, numbers_named, rises, with_entry, with_clause, without, follow}
+use Rattle.lrat_judge.specs.Follow.{Known, number_named, numbers_named, rises, with_entry, with_lawful, with_clause, without, follow}
 use Rattle.lrat_judge.specs.Reached.{Enters, StandsAt, Stands}
 
 -- ---- one entry
@@ -58,39 +58,37 @@ pub stands_entered : (answer : Bool) (checker : CheckerView) (ids next : List �
 stands_entered answer checker ids next entries None is h = h
 stands_entered answer checker ids next entries (Some log) is h = (h.0, record { taken = h.1; ids_are = is; entries_are = h.2 })
 
-pub with_clause_is : (formula : Cnf) (known : Known) (line : LineView) (clause hints : List ℕ) → is_foreign line ≡ false → rises line.id known.ids ≡ true → clause_of (codes_of line.literals) ≡ Some clause
-    → numbers_named known.ids (plain_ids line.hints) ≡ Some hints → with_clause formula known line ≡ option_map (λ log. record { ids = known.ids ++ line.id ∷ []; log = log }) (with_entry formula known.log (Learn clause hints))
-unfolding with_clause
-with_clause_is formula known line clause hints plain rising is named = rw (plain, rising, is, named) refl
-
 pub clause_foreign : (formula : Cnf) (known : Known) (line : LineView) → is_foreign line ≡ true → with_clause formula known line ≡ None
 unfolding with_clause
 clause_foreign formula known line foreign = rw foreign refl
 
-pub clause_falls : (formula : Cnf) (known : Known) (line : LineView) → rises line.id known.ids ≡ false → with_clause formula known line ≡ None
-unfolding with_clause
-clause_falls formula known line falls = by (is_foreign line) refl
-  where
-    by : (b : Bool) → is_foreign line ≡ b → with_clause formula known line ≡ None
-    by true e = rw e refl
-    by false e = rw (e, falls) refl
+-- What a line comes to that is not foreign, by its clause.
+module _ (formula : Cnf) (known : Known) (line : LineView) (plain : is_foreign line ≡ false) where
+  pub clause_passed : clause_of (codes_of line.literals) ≡ None → with_clause formula known line ≡ Some known
+  unfolding with_clause
+  clause_passed none = rw (plain, none) refl
 
-pub clause_none : (formula : Cnf) (known : Known) (line : LineView) → clause_of (codes_of line.literals) ≡ None → with_clause formula known line ≡ None
-unfolding with_clause
-clause_none formula known line none = by (is_foreign line || not (rises line.id known.ids)) refl
-  where
-    by : (b : Bool) → (is_foreign line || not (rises line.id known.ids)) ≡ b → with_clause formula known line ≡ None
-    by true e = rw e refl
-    by false e = rw (e, none) refl
+  module _ (clause : List ℕ) (is : clause_of (codes_of line.literals) ≡ Some clause) where
+    clause_lawful : with_clause formula known line ≡ with_lawful formula known line clause
+    unfolding with_clause
+    clause_lawful = rw (plain, is) refl
 
-pub clause_unnamed : (formula : Cnf) (known : Known) (line : LineView) → numbers_named known.ids (plain_ids line.hints) ≡ None → with_clause formula known line ≡ None
-unfolding with_clause
-clause_unnamed formula known line none = by (is_foreign line || not (rises line.id known.ids)) refl (clause_of (codes_of line.literals)) refl
-  where
-    by : (b : Bool) → (is_foreign line || not (rises line.id known.ids)) ≡ b → (o : Option (List ℕ)) → clause_of (codes_of line.literals) ≡ o → with_clause formula known line ≡ None
-    by true e o f = rw e refl
-    by false e None f = rw (e, f) refl
-    by false e (Some clause) f = rw (e, f, none) refl
+    pub clause_falls : rises line.id known.ids ≡ false → with_clause formula known line ≡ None
+    unfolding with_lawful
+    clause_falls falls = clause_lawful ∙ (rw falls refl)
+
+    pub clause_unnamed : numbers_named known.ids (plain_ids line.hints) ≡ None → with_clause formula known line ≡ None
+    unfolding with_lawful
+    clause_unnamed none = clause_lawful ∙ by (rises line.id known.ids) refl
+      where
+        by : (b : Bool) → rises line.id known.ids ≡ b → with_lawful formula known line clause ≡ None
+        by true e = rw (e, none) refl
+        by false e = rw e refl
+
+    pub with_clause_is : (hints : List ℕ) → rises line.id known.ids ≡ true → numbers_named known.ids (plain_ids line.hints) ≡ Some hints
+        → with_clause formula known line ≡ option_map (λ log. record { ids = known.ids ++ line.id ∷ []; log = log }) (with_entry formula known.log (Learn clause hints))
+    unfolding with_lawful
+    with_clause_is hints rising named = clause_lawful ∙ (rw (rising, named) refl)
 
 -- ---- a line
 
@@ -140,6 +138,9 @@ none_stands checker ids entries o none = subst (λ (k : Option Known). Stands fa
 
 pub none_enters : (checker : CheckerView) (entries : ℕ) (o : Option (List Entry)) → o ≡ None → Enters false checker entries o
 none_enters checker entries o none = subst (λ (k : Option (List Entry)). Enters false checker entries k) (sym none) refl
+
+pub same_stands : (checker : CheckerView) (ids : List ℕ) (entries : ℕ) (known : Known) (o : Option Known) → o ≡ Some known → StandsAt checker ids entries known → Stands true checker ids entries o
+same_stands checker ids entries known o is stands = subst (λ (k : Option Known). Stands true checker ids entries k) (sym is) (refl, stands)
 
 pub not_stood : (checker : CheckerView) (ids : List ℕ) (entries : ℕ) (o : Option Known) → Stands false checker ids entries o → o ≡ None
 not_stood checker ids entries None h = refl

@@ -1,5 +1,5 @@
 -- What a line of a proof comes to, after the lines before it.
-use Rattle.std.specs.Prelude.{ℕ, ◌||◌, ◌&&◌, not, List, [], ◌∷◌, ◌++◌, length, nat_lt, Bool, Option, Some, None, option_map, option_and_then, if◌then◌else◌}
+use Rattle.std.specs.Prelude.{ℕ, ◌&&◌, not, List, [], ◌∷◌, ◌++◌, length, nat_lt, Bool, Option, Some, None, option_map, option_and_then, if◌then◌else◌}
 use Rattle.std.specs.List.{range_with_len, list_all}
 use Rattle.clause_base.specs.Clause.{clause_of}
 use Rattle.clause_base.specs.Formula.{Cnf}
@@ -35,11 +35,20 @@ rises id ids = nat_lt 0 id && list_all (λ k. nat_lt k id) ids
 unfoldable pub with_entry : Cnf → List Entry → Entry → Option (List Entry)
 with_entry formula log entry = if is_derived_after formula.variables formula.clauses log (Some entry) then Some (log ++ entry ∷ []) else None
 
--- what is known with a clause more, where the line's id is above all others, its hints name clauses, and they lead to a conflict
+-- what is known with this clause more, where the line's id is above all others, its hints name clauses, and they lead to a conflict
+unfoldable pub with_lawful : Cnf → Known → LineView → List ℕ → Option Known
+with_lawful formula known line clause =
+    if not (rises line.id known.ids) then None
+    else option_and_then (λ hints. option_map (λ log. record { ids = known.ids ++ line.id ∷ []; log = log }) (with_entry formula known.log (Learn clause hints))) (numbers_named known.ids (plain_ids line.hints))
+
+-- the same with the clause of these literals; a tautology is always true, and is passed over: its id names no clause
+abbrev pub with_literals : Cnf → Known → LineView → Option (List ℕ) → Option Known
+with_literals formula known line None = Some known
+with_literals formula known line (Some clause) = with_lawful formula known line clause
+
+-- the same with the clause of a line
 unfoldable pub with_clause : Cnf → Known → LineView → Option Known
-with_clause formula known line =
-    if is_foreign line || not (rises line.id known.ids) then None
-    else option_and_then (λ clause. option_and_then (λ hints. option_map (λ log. record { ids = known.ids ++ line.id ∷ []; log = log }) (with_entry formula known.log (Learn clause hints))) (numbers_named known.ids (plain_ids line.hints))) (clause_of (codes_of line.literals))
+with_clause formula known line = if is_foreign line then None else with_literals formula known line (clause_of (codes_of line.literals))
 
 -- entries with one more for each of these ids, which drops the clause that it names, where that is kept
 abbrev pub without : Cnf → List ℕ → List ℕ → List Entry → Option (List Entry)

@@ -75,7 +75,8 @@ fn forget_counted(checker: &mut Checker<'_>, number: u32, entries: &mut u64) -> 
     true
 }
 
-/// Takes the line as one that adds a clause, where the clause is derived by the hints, and says whether it is.
+/// Takes the line as one that adds a clause, where the clause is derived by the hints, and says whether it is. A tautology is always
+/// true: it is passed over, and its id names no clause.
 pub fn learn(
     alloc: Global,
     checker: &mut Checker<'_>,
@@ -93,12 +94,12 @@ pub fn learn(
     if line.foreign {
         return Ok(false);
     }
+    let Some(clause) = Clause::of(alloc, &line.lits)? else {
+        return Ok(true);
+    };
     if !read_hints(hints, ids, line)? {
         return Ok(false);
     }
-    let Some(clause) = Clause::of(alloc, &line.lits)? else {
-        return Ok(false);
-    };
     if !ids.push(line.id)? {
         return Ok(false);
     }

@@ -1,14 +1,13 @@
 //! Pieces of a text, cut into lines.
-ghost use Rattle.std.specs.Prelude.{◌≡◌, ◌≢◌, ◌<◌, ◌+◌, ◌++◌, ◌∷◌, [], ℕ, List, true, length, IfOk, IfSome, IfNone};
+ghost use Rattle.std.specs.Prelude.{◌≡◌, ◌≢◌, ◌<◌, ◌+◌, ◌++◌, ◌∷◌, [], ℕ, List, true, false, length, IfOk, IfSome, IfNone};
 ghost use Rattle.clause_base.specs.Formula.{IsUnsatisfiable};
-ghost use Rattle.lrat_judge.specs.Judged.{IsRefutedBy};
-ghost use Rattle.sat_text.specs.LratLine.{line_of};
+ghost use Rattle.lrat_judge.specs.Judged.{IsRefutedBy, has_empty, counted};
 ghost use Rattle.lrat_judge.specs.Follow.{Known};
-ghost use Rattle.lrat_judge.specs.Verdicts.{outcome_line, verdict_of};
+ghost use Rattle.lrat_judge.specs.Verdicts.{outcome_of, verdict_of, verdict_ended, most_line};
 ghost use Rattle.lrat_judge.specs.Reached.{IsBefore, Comes, HasRead, has_no_end};
 
 use crate::lines::Lines;
-use crate::verdict::Verdict;
+use crate::verdict::{Verdict, is_long};
 use clause_base::formula::Formula;
 use containers::memory::Memory;
 use sat_text::lines::first_line;
@@ -18,16 +17,43 @@ use std::marker::Model;
 /// A judge of one proof, for one formula. Contracts see the formula.
 #[derive(Drop)]
 pub struct Judge<'a> {
+    // Whether the formula has the empty clause.
+    at_once: bool,
     front: Vec<u8>,
     lines: Lines<'a>,
 }
 
 impl<'a> Model for Judge<'a> {
-    ghost use Rattle.lrat_judge.specs.Judged.{Judged};
+    ghost use Rattle.std.specs.Prelude.{◌≡◌};
+    ghost use Rattle.lrat_judge.specs.Judged.{Judged, has_empty};
 
     ghost Value = { Judged };
 
     ghost view = { λ j. record { formula = j.lines.formula; checker = j.lines.checker; ids = j.lines.ids; at = j.lines.at; count = j.lines.count; entries = j.lines.entries; front = j.front.items } };
+
+    ghost invariant = { λ j. j.at_once ≡ has_empty j.lines.formula.clauses };
+}
+
+// What is said where the text has ended, by what was said of its last line.
+fn ended(verdict: Verdict) -> Verdict
+    ensures { result ≡ verdict_ended verdict }
+{
+    match verdict {
+        Verdict::More => Verdict::NotEmpty,
+        _ => verdict,
+    }
+}
+
+// Whether the empty clause is one of a formula's.
+fn has_empty(formula: &Formula) -> bool
+    ensures { result ≡ has_empty formula.now.clauses }
+{
+    for number in 0..formula.count() {
+        if formula.clause(number).len() == 0 {
+            return true;
+        }
+    }
+    false
 }
 
 impl<'a> Judge<'a> {
@@ -37,9 +63,17 @@ impl<'a> Judge<'a> {
         ensures read { IfOk result (λ judge. HasRead judge []) }
     {
         Ok(Judge {
+            at_once: has_empty(formula),
             front: Vec::new(alloc),
             lines: Lines::new(alloc, formula)?,
         })
+    }
+
+    // Whether the formula has the empty clause.
+    fn is_refuted(&self) -> bool
+        ensures { result ≡ has_empty self.now.formula.clauses }
+    {
+        self.at_once
     }
 
     // Takes the end of the next line, whose front is held.
@@ -48,7 +82,7 @@ impl<'a> Judge<'a> {
         ensures refuted { (entries : ℕ) → result ≡ Ok (Verdict.Refuted entries) → IsUnsatisfiable self.old.formula.clauses }
         ensures entries { (entries : ℕ) → result ≡ Ok (Verdict.Refuted entries) → IsRefutedBy self.old.formula entries }
         ensures comes { (known : Known) (at count : ℕ) → IsBefore self.old known at count
-            → IfOk result (λ verdict. Comes (outcome_line self.old.formula known at count (line_of (self.old.front ++ end.now))) verdict self.new (at + length (self.old.front ++ end.now) + 1) (count + 1)) }
+            → IfOk result (λ verdict. Comes (outcome_of self.old.formula known at count (self.old.front ++ end.now)) verdict self.new (at + length (self.old.front ++ end.now) + 1) (count + 1)) }
         ensures front { result ≡ Ok Verdict.More → self.new.front ≡ [] }
     {
         if self.front.as_slice().is_empty() {
@@ -60,13 +94,28 @@ impl<'a> Judge<'a> {
         Ok(verdict)
     }
 
-    /// Takes the next piece of the text, cut off anywhere. After any verdict but `More`, and after want of memory, the judging
-    /// is over.
-    pub fn take(&mut self, piece: &[u8]) -> Result<Verdict, Memory>
+    // Holds more of the front of the next line, whose end is not there yet, where it is not too long.
+    fn hold(&mut self, rest: &[u8]) -> Result<Verdict, Memory>
+        ensures formula { self.new.formula ≡ self.old.formula }
+        ensures held { result ≡ Ok Verdict.More → self.new ≡ record self.old { front = self.old.front ++ rest.now } }
+        ensures long { IfOk result (λ verdict. verdict ≢ Verdict.More → (verdict ≡ Verdict.TooLong (counted (self.old.count + 1))) × (most_line < length (self.old.front ++ rest.now))) }
+    {
+        self.front.extend_from_slice(rest)?;
+        if is_long(&self.front) {
+            return Ok(Verdict::TooLong {
+                line: self.lines.next(),
+            });
+        }
+        Ok(Verdict::More)
+    }
+
+    // Takes the next piece of the text, of a formula without the empty clause.
+    fn take_lines(&mut self, piece: &[u8]) -> Result<Verdict, Memory>
+        requires { has_empty self.old.formula.clauses ≡ false }
         ensures formula { self.new.formula ≡ self.old.formula }
         ensures refuted { (entries : ℕ) → result ≡ Ok (Verdict.Refuted entries) → IsUnsatisfiable self.old.formula.clauses }
         ensures entries { (entries : ℕ) → result ≡ Ok (Verdict.Refuted entries) → IsRefutedBy self.old.formula entries }
-        ensures verdict { (text : List ℕ) → HasRead self.old text → IfOk result (λ verdict. verdict ≢ Verdict.More → verdict ≡ verdict_of self.old.formula (text ++ piece.now)) }
+        ensures verdict { (text : List ℕ) → HasRead self.old text → IfOk result (λ verdict. verdict ≢ Verdict.More → (more : List ℕ) → verdict ≡ verdict_of self.old.formula ((text ++ piece.now) ++ more)) }
         ensures read { (text : List ℕ) → HasRead self.old text → result ≡ Ok Verdict.More → HasRead self.new (text ++ piece.now) }
     {
         let mut rest = piece;
@@ -77,21 +126,35 @@ impl<'a> Judge<'a> {
                 _ => return Ok(verdict),
             }
         }
-        self.front.extend_from_slice(rest)?;
-        Ok(Verdict::More)
+        self.hold(rest)
     }
 
-    /// What is known where the text ends after the pieces so far.
-    pub fn finish(&self) -> Verdict
-        ensures refuted { (entries : ℕ) → result ≡ Verdict.Refuted entries → IsUnsatisfiable self.now.formula.clauses }
-        ensures verdict { (text : List ℕ) → HasRead self.now text → result ≡ verdict_of self.now.formula text }
+    /// Takes the next piece of the text, cut off anywhere. After any verdict but `More`, which is that on each text that begins so, and
+    /// after want of memory, the judging is over.
+    pub fn take(&mut self, piece: &[u8]) -> Result<Verdict, Memory>
+        ensures formula { self.new.formula ≡ self.old.formula }
+        ensures refuted { (entries : ℕ) → result ≡ Ok (Verdict.Refuted entries) → IsUnsatisfiable self.old.formula.clauses }
+        ensures entries { (entries : ℕ) → result ≡ Ok (Verdict.Refuted entries) → IsRefutedBy self.old.formula entries }
+        ensures verdict { (text : List ℕ) → HasRead self.old text → IfOk result (λ verdict. verdict ≢ Verdict.More → (more : List ℕ) → verdict ≡ verdict_of self.old.formula ((text ++ piece.now) ++ more)) }
+        ensures read { (text : List ℕ) → HasRead self.old text → result ≡ Ok Verdict.More → HasRead self.new (text ++ piece.now) }
     {
-        if self.front.as_slice().is_empty() {
-            Verdict::NotEmpty
-        } else {
-            Verdict::Syntax {
-                at: self.lines.at(),
-            }
+        if self.is_refuted() {
+            return Ok(Verdict::Refuted { entries: 0 });
         }
+        self.take_lines(piece)
+    }
+
+    /// Takes that the text ends after the pieces so far, and answers what is then known. The last line may lack its LF.
+    pub fn finish(&mut self) -> Result<Verdict, Memory>
+        ensures formula { self.new.formula ≡ self.old.formula }
+        ensures refuted { (entries : ℕ) → result ≡ Ok (Verdict.Refuted entries) → IsUnsatisfiable self.old.formula.clauses }
+        ensures entries { (entries : ℕ) → result ≡ Ok (Verdict.Refuted entries) → IsRefutedBy self.old.formula entries }
+        ensures verdict { (text : List ℕ) → HasRead self.old text → IfOk result (λ verdict. verdict ≡ verdict_of self.old.formula text) }
+    {
+        if self.is_refuted() {
+            return Ok(Verdict::Refuted { entries: 0 });
+        }
+        let verdict = self.lines.take(&self.front)?;
+        Ok(ended(verdict))
     }
 }

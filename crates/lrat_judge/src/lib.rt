@@ -12,7 +12,7 @@
 //!         verdict => return Ok(verdict),
 //!     }
 //! }
-//! Ok(judge.finish())
+//! judge.finish()
 //! ```
 //!
 //! It reads a line at a time (`lines`), turns ids into numbers of clauses (`entries`, by `ids`), and hands each entry to the `Checker` of

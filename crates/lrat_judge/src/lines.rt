@@ -1,19 +1,20 @@
 //! Lines, judged one after another.
-ghost use Rattle.std.specs.Prelude.{◌≡◌, ◌+◌, ℕ, List, [], length, IfOk};
+ghost use Rattle.std.specs.Prelude.{◌≡◌, ◌+◌, ℕ, List, [], length, IfOk, if◌then◌else◌};
 ghost use Rattle.clause_base.specs.Formula.{IsUnsatisfiable};
-ghost use Rattle.lrat_judge.specs.Judged.{IsRefutedBy, HasCounted};
-ghost use Rattle.sat_text.specs.LratLine.{LineView, IsHeld, line_of};
+ghost use Rattle.lrat_judge.specs.Judged.{IsRefutedBy, HasCounted, counted};
+ghost use Rattle.sat_text.specs.Words.{words_of};
+ghost use Rattle.sat_text.specs.LratLine.{LineView, IsHeld, is_passed};
 ghost use Rattle.lrat_judge.specs.Follow.{Known, known_first, follow};
-ghost use Rattle.lrat_judge.specs.Verdicts.{outcome_line};
+ghost use Rattle.lrat_judge.specs.Verdicts.{outcome_of};
 ghost use Rattle.lrat_judge.specs.Reached.{StandsAt, Stands, IsBefore, Comes};
 
 use crate::entries::{forget, learn};
 use crate::ids::IdTable;
-use crate::verdict::Verdict;
+use crate::verdict::{Verdict, is_long};
 use clause_base::formula::Formula;
 use containers::memory::Memory;
 use rup_check::checker::Checker;
-use sat_text::lrat_line::Line;
+use sat_text::lrat_line::{Line, is_passed};
 use std::alloc::Global;
 use std::marker::Model;
 
@@ -62,6 +63,17 @@ fn take_read(
     learn(alloc, checker, ids, line, hints, entries)
 }
 
+// What is said of the bytes of a line that are none, and begin at an offset: they are passed over where they tell nothing.
+fn unread(bytes: &[u8], at: u64) -> Verdict
+    ensures { result ≡ (if is_passed (words_of bytes.now) then Verdict.More else Verdict.Syntax at) }
+{
+    if is_passed(bytes) {
+        Verdict::More
+    } else {
+        Verdict::Syntax { at }
+    }
+}
+
 impl<'a> Lines<'a> {
     /// Before the first line.
     pub fn new(alloc: Global, formula: &'a Formula) -> Result<Lines<'a>, Memory>
@@ -81,11 +93,11 @@ impl<'a> Lines<'a> {
         })
     }
 
-    /// The offset at which the next line begins.
-    pub fn at(&self) -> u64
-        ensures { result ≡ self.now.at }
+    /// The number of the next line, counted from 1.
+    pub fn next(&self) -> u64
+        ensures { result ≡ counted (self.now.count + 1) }
     {
-        self.at
+        self.count.saturating_add(1)
     }
 
     /// Takes the bytes of the next line, without its LF.
@@ -94,13 +106,16 @@ impl<'a> Lines<'a> {
         ensures refuted { (entries : ℕ) → result ≡ Ok (Verdict.Refuted entries) → IsUnsatisfiable self.old.formula.clauses }
         ensures entries { (entries : ℕ) → result ≡ Ok (Verdict.Refuted entries) → IsRefutedBy self.old.formula entries }
         ensures comes { (known : Known) (at count : ℕ) → IsBefore self.old known at count
-            → IfOk result (λ verdict. Comes (outcome_line self.old.formula known at count (line_of bytes.now)) verdict self.new (at + length bytes.now + 1) (count + 1)) }
+            → IfOk result (λ verdict. Comes (outcome_of self.old.formula known at count bytes.now) verdict self.new (at + length bytes.now + 1) (count + 1)) }
     {
         let at = self.at;
         self.at = at.saturating_add(bytes.len() as u64 + 1);
         self.count = self.count.saturating_add(1);
+        if is_long(bytes) {
+            return Ok(Verdict::TooLong { line: self.count });
+        }
         if !self.line.read(bytes)? {
-            return Ok(Verdict::Syntax { at });
+            return Ok(unread(bytes, at));
         }
         if !take_read(
             self.alloc,

@@ -3,7 +3,8 @@ ghost use Rattle.std.specs.Prelude.{◌≡◌, ◌<◌, ◌≤◌, ◌+◌, ℕ,
 ghost use Rattle.pl_io.specs.Outside.{Rose};
 
 use crate::file_shelf::cause_of;
-use crate::{Sent, TakeError, Tape};
+use crate::opened::{Opened, next_reading};
+use crate::{Reading, Sent, TakeError, Tape};
 use std::fs;
 use std::io::{ErrorKind, Read};
 use std::rt::Files;
@@ -24,8 +25,9 @@ pub struct FileTape<'a, H: Files + Input> {
     source: Source<H::File, H::Reader>,
     pieces: u64,
     faults: u64,
-    name: Sent,
+    opened: Opened,
     given: Sent,
+    reading: Reading,
 }
 
 impl<'a, H: Files + Input> FileTape<'a, H> {
@@ -38,8 +40,9 @@ impl<'a, H: Files + Input> FileTape<'a, H> {
             source: Source::Nothing,
             pieces: u64::MAX,
             faults: 0,
-            name: Sent::new(),
+            opened: Opened::new(),
             given: Sent::new(),
+            reading: Reading::Lost,
         }
     }
 }
@@ -108,7 +111,7 @@ impl<'a, H: Files + Input> Tape for FileTape<'a, H> {
 
     ghost left = { λ _. None };
 
-    ghost given = { λ tape. (tape.name.bytes, tape.given.bytes) };
+    ghost given = { λ tape. record { opened = tape.opened.names; bytes = tape.given.bytes; reading = tape.reading } };
 
     ghost pieces = { λ tape. tape.pieces };
 
@@ -117,12 +120,13 @@ impl<'a, H: Files + Input> Tape for FileTape<'a, H> {
     fn open(&mut self, name: &str) -> Result<(), TakeError> {
         self.source = Source::Nothing;
         self.pieces = u64::MAX;
+        self.reading = Reading::Lost;
         match open_source(self.rt, name) {
             Ok(source) => {
                 self.source = source;
-                self.name = Sent::new();
-                self.name.note(name.as_bytes());
+                self.opened.note(name.as_bytes());
                 self.given = Sent::new();
+                self.reading = Reading::Goes;
                 Ok(())
             }
             Err(error) => Err(count_fault(error, &mut self.faults)),
@@ -130,6 +134,8 @@ impl<'a, H: Files + Input> Tape for FileTape<'a, H> {
     }
 
     fn take(&mut self, into: &mut [u8]) -> Result<usize, TakeError> {
+        let before = self.reading;
+        self.reading = Reading::Lost;
         if self.pieces == 0 {
             return Err(count_fault(TakeError::Failed, &mut self.faults));
         }
@@ -137,6 +143,7 @@ impl<'a, H: Files + Input> Tape for FileTape<'a, H> {
         match read_source(&mut self.source, into) {
             Ok(count) => {
                 self.given.note(&into[..count]);
+                self.reading = next_reading(before, &into[..count]);
                 Ok(count)
             }
             Err(error) => Err(count_fault(error, &mut self.faults)),

@@ -4,7 +4,8 @@ ghost use Rattle.std.specs.Str.{bytes_eq};
 ghost use Rattle.pl_io.specs.Outside.{Rose};
 ghost use Rattle.pl_io.specs.Tape.{file_told};
 
-use crate::{NamedFile, Sent, TakeError, Tape};
+use crate::opened::{Opened, next_reading};
+use crate::{NamedFile, Reading, Sent, TakeError, Tape};
 
 /// One file in memory, of which each piece has at most so many bytes. A take at or after a place in it fails, where there is one.
 #[derive(Drop)]
@@ -14,8 +15,9 @@ pub struct MemTape {
     failing: Option<usize>,
     at: usize,
     faults: u64,
-    name: Sent,
+    opened: Opened,
     given: Sent,
+    reading: Reading,
 }
 
 impl MemTape {
@@ -31,8 +33,9 @@ impl MemTape {
             failing,
             at: 0,
             faults: 0,
-            name: Sent::new(),
+            opened: Opened::new(),
             given: Sent::new(),
+            reading: Reading::Lost,
         }
     }
 
@@ -49,25 +52,28 @@ impl Tape for MemTape {
 
     ghost left = { λ tape. Some (drop tape.at tape.file.bytes) };
 
-    ghost given = { λ tape. (tape.name.bytes, tape.given.bytes) };
+    ghost given = { λ tape. record { opened = tape.opened.names; bytes = tape.given.bytes; reading = tape.reading } };
 
     ghost pieces = { λ tape. length tape.file.bytes - tape.at };
 
     ghost faults = { λ tape. tape.faults };
 
     fn open(&mut self, name: &str) -> Result<(), TakeError> {
+        self.reading = Reading::Lost;
         if self.file.name.as_slice() != name.as_bytes() {
             self.faults = self.faults.saturating_add(1);
             return Err(TakeError::Failed);
         }
         self.at = 0;
-        self.name = Sent::new();
-        self.name.note(name.as_bytes());
+        self.opened.note(name.as_bytes());
         self.given = Sent::new();
+        self.reading = Reading::Goes;
         Ok(())
     }
 
     fn take(&mut self, into: &mut [u8]) -> Result<usize, TakeError> {
+        let before = self.reading;
+        self.reading = Reading::Lost;
         if let Some(place) = self.failing {
             if place <= self.at {
                 self.faults = self.faults.saturating_add(1);
@@ -79,6 +85,7 @@ impl Tape for MemTape {
         let count = copy_front(&bytes[at..], self.most.max(1), into);
         self.at = at + count;
         self.given.note(&into[..count]);
+        self.reading = next_reading(before, &into[..count]);
         Ok(count)
     }
 }

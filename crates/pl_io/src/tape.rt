@@ -1,9 +1,20 @@
 // Files that are taken piece by piece, from front to back, so that a file of any length and a pipe will do.
 ghost use Rattle.std.specs.Prelude.{◌≡◌, ◌<◌, ◌≤◌, ◌++◌, ℕ, List, [], Option, option_map, length, take, OnOk, OnErr, IfOk, IfSome};
 ghost use Rattle.pl_io.specs.Outside.{Rose};
-ghost use Rattle.pl_io.specs.Tape.{Given, given_more};
+ghost use Rattle.pl_io.specs.Tape.{Given, given_opened, given_more, given_lost};
 
 use crate::TakeError;
+
+/// How far the file that was opened last was read.
+#[derive(Clone, Copy, PartialEq, Eq)]
+pub enum Reading {
+    /// All that was read of it came piece after piece from its front on, and it may have more.
+    Goes,
+    /// The same, and its end was told.
+    Ended,
+    /// A call failed since it was opened, or bytes came after its end; or no file was opened.
+    Lost,
+}
 
 /// Files by name, of which one at a time is taken piece by piece.
 pub trait Tape {
@@ -13,8 +24,8 @@ pub trait Tape {
     /// What is left of the file that was opened last, where the tape tells it.
     ghost left: { Self → Option (List ℕ) };
 
-    /// The name of the file that was opened last, and the bytes of it that were handed over since, in their order. It is kept of every
-    /// tape, also of one that tells nothing.
+    /// The names of the files that were opened, in their order, and of the one that was opened last the bytes that were handed over
+    /// since, in their order, and how far it was read. It is kept of every tape, also of one that tells nothing.
     ghost given: { Self → Given };
 
     /// How many pieces there are at most before the end or a fault.
@@ -29,7 +40,8 @@ pub trait Tape {
     fn open(&mut self, name: &str) -> Result<(), TakeError>
         ensures told { told self.new ≡ told self.old }
         ensures left { OnOk result (left self.new ≡ told self.old name.now) }
-        ensures given { OnOk result (given self.new ≡ (name.now, [])) }
+        ensures given { OnOk result (given self.new ≡ given_opened (given self.old) name.now) }
+        ensures ungiven { OnErr result (given self.new ≡ given_lost (given self.old)) }
         ensures later { faults self.old ≤ faults self.new }
         ensures cause { result ≡ Err TakeError.Failed → Rose (faults self.old) (faults self.new) };
 
@@ -43,7 +55,7 @@ pub trait Tape {
         ensures bound { IfOk result (λ count. count ≤ length into.new) }
         ensures taken { IfOk result (λ count. left self.old ≡ option_map (λ after. take count into.new ++ after) (left self.new)) }
         ensures given { IfOk result (λ count. given self.new ≡ given_more (given self.old) (take count into.new)) }
-        ensures ungiven { OnErr result (given self.new ≡ given self.old) }
+        ensures ungiven { OnErr result (given self.new ≡ given_lost (given self.old)) }
         ensures end { result ≡ Ok 0 → IfSome (left self.old) (λ before. before ≡ []) }
         ensures fewer { IfOk result (λ count. 0 < count → pieces self.new < pieces self.old) }
         ensures later { faults self.old ≤ faults self.new }

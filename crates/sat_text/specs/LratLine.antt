@@ -1,7 +1,8 @@
--- A line of LRAT text: `ID LITERALS 0 HINTS 0`, which adds a clause, or `ID d IDS 0`, which deletes clauses.
+-- A line of LRAT text: `ID LITERALS 0 HINTS 0`, which adds a clause, `ID d IDS 0`, which deletes clauses, or one that tells nothing.
 use Rattle.std.specs.Prelude.{◌≡◌, ◌-◌, ◌==◌, ◌||◌, not, ℕ, Bool, true, false, List, [], ◌∷◌, map, filter, drop, length, nat_le, codes, Option, Some, None, option_map, option_and_then, if◌then◌else◌}
 use Rattle.std.specs.List.{list_any}
 use Rattle.clause_base.specs.Literal.{literal_of}
+use Rattle.std.specs.Str.{bytes_eq}
 use Rattle.sat_text.specs.declared.words.Signed.{Signed}
 use Rattle.sat_text.specs.declared.lrat_line.Line.{Line}
 use Rattle.sat_text.specs.Words.{words_of, first_number, begins_with, number_of}
@@ -44,6 +45,11 @@ line_with id words = if id.minus then None else if begins_with (codes "d") words
 -- the line that bytes spell
 unfoldable pub line_of : List ℕ → Option LineView
 line_of bytes = option_and_then (λ id. line_with id (drop 1 (words_of bytes))) (first_number (words_of bytes))
+
+-- whether a line of these words tells nothing: there is none, or the first is `c`, which begins a comment
+abbrev pub is_passed : List (List ℕ) → Bool
+is_passed [] = true
+is_passed (word ∷ words) = bytes_eq word (codes "c")
 
 -- a literal of a variable that has a code: variables are counted from 1 up to 2 ^ 31
 abbrev pub has_code : Signed → Bool

@@ -2,10 +2,11 @@
 ghost use Rattle.std.specs.Prelude.{◌≡◌, ◌<◌, ◌++◌, ◌∷◌, ◌||◌, [], true, false, not, List, Some, None, Ok, map, OnOk};
 ghost use Rattle.std.specs.List.{list_any};
 ghost use Rattle.sat_text.specs.declared.words.Signed.{Signed};
-ghost use Rattle.sat_text.specs.LratLine.{LineView, IsHeld, line_of, up_to_zero, all_to_zero, addition, deletion, rest_of};
+ghost use Rattle.sat_text.specs.Words.{words_of};
+ghost use Rattle.sat_text.specs.LratLine.{LineView, IsHeld, is_passed, line_of, up_to_zero, all_to_zero, addition, deletion, rest_of};
 ghost use Rattle.sat_text.specs.own.Reading.{Reads, ReadsLiterals, ReadsIds};
 
-use crate::words::{Signed, Words};
+use crate::words::{Signed, Words, is};
 use clause_base::literal::Lit;
 use containers::memory::Memory;
 use std::alloc::Global;
@@ -35,6 +36,16 @@ enum Part {
     Literals,
     // Hints, or ids.
     Ids,
+}
+
+/// Whether the bytes of a line, without its LF, tell nothing: it has no word, or is a comment, whose first word is `c`.
+pub fn is_passed(bytes: &[u8]) -> bool
+    ensures { result ≡ is_passed (words_of bytes.now) }
+{
+    match Words::of(bytes).next() {
+        Some(word) => is(word, b"c"),
+        None => true,
+    }
 }
 
 impl Line {

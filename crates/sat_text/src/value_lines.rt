@@ -6,7 +6,7 @@ ghost use Rattle.sat_text.specs.Values.{Told, numbers_of, numbers_told, is_satis
 ghost use Rattle.sat_text.specs.Stands.{HasTold, Goes};
 
 use crate::values::Values;
-use crate::words::{Signed, Words};
+use crate::words::{Signed, Words, is};
 use containers::memory::Memory;
 use std::alloc::Global;
 use std::marker::Model;
@@ -28,13 +28,6 @@ impl Model for Lines {
     ghost Value = { ReaderView };
 
     ghost view = { λ l. record { table = l.values; ended = l.ended; at = l.at; front = [] } };
-}
-
-// Whether a word is this one.
-fn is(word: &[u8], other: &[u8]) -> bool
-    ensures { result ≡ bytes_eq word.now other.now }
-{
-    word == other
 }
 
 // Whether the words that are left are the word `SATISFIABLE` alone.

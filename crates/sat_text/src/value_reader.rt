@@ -70,10 +70,11 @@ impl Reader {
     }
 
     /// Takes the next piece of the text, cut off anywhere. Answers the offset of the first line that is no line of a model, or
-    /// contradicts the lines before it; after that, and after want of memory, the reading is over. None where the text may go on.
+    /// contradicts the lines before it, however the text goes on; after that, and after want of memory, the reading is over. None where the
+    /// text may go on.
     pub fn take(&mut self, piece: &[u8]) -> Result<Option<u64>, Memory>
         ensures read { (variables : ℕ) (text : List ℕ) → HasRead variables text self.old → result ≡ Ok None → HasRead variables (text ++ piece.now) self.new }
-        ensures refused { (variables : ℕ) (text : List ℕ) → HasRead variables text self.old → IfOk result (λ o. IfSome o (λ at. model_of variables (text ++ piece.now) ≡ NoText at)) }
+        ensures refused { (variables : ℕ) (text : List ℕ) → HasRead variables text self.old → IfOk result (λ o. IfSome o (λ at. (more : List ℕ) → model_of variables ((text ++ piece.now) ++ more) ≡ NoText at)) }
     {
         let mut rest = piece;
         while let Some((line, others)) = first_line(rest) {

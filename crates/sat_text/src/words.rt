@@ -1,6 +1,7 @@
 //! The words of a line, which blanks part.
 ghost use Rattle.std.specs.Prelude.{◌≡◌, ◌<◌, ◌==◌, ◌+◌, ◌*◌, ◌-◌, ◌≤◌, ◌∷◌, List, [], ℕ, Bool, IfSome, IfNone, IsSomeAnd, Some, None, true, false, codes, slice_index, take, drop, length, nat_lt, if◌then◌else◌};
 ghost use Rattle.std.specs.Char.{is_ascii_digit};
+ghost use Rattle.std.specs.Str.{bytes_eq};
 ghost use Rattle.sat_text.specs.Words.{is_blank, words_of, value_of, value_with, natural_of, first_number, begins_with};
 ghost use Rattle.sat_text.specs.own.Cut.{after_blanks, digits_front, after_digits, word_front, after_word, ends_word};
 
@@ -30,6 +31,13 @@ impl<'a> Model for Words<'a> {
     ghost Value = { List (List ℕ) };
 
     ghost view = { λ w. words_of w.rest.now };
+}
+
+/// Whether a word is this one.
+pub(crate) fn is(word: &[u8], other: &[u8]) -> bool
+    ensures { result ≡ bytes_eq word.now other.now }
+{
+    word == other
 }
 
 // Whether a byte is a blank: a space, a tab or a carriage return.

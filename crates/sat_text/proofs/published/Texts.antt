@@ -98,7 +98,27 @@ last_more (b ∷ text) rest e = by (last_more text rest e) (b == 10) refl
 pub text_on : (text end others : List ℕ) → (text ++ (end ++ 10 ∷ [])) ++ others ≡ text ++ (end ++ 10 ∷ others)
 text_on text end others = append_assoc text (end ++ 10 ∷ []) others ∙ ap (λ (t : List ℕ). text ++ t) (append_assoc end (10 ∷ []) others)
 
+-- the same where more comes after it
+pub text_longer : (text end others more : List ℕ) → (text ++ (end ++ 10 ∷ others)) ++ more ≡ text ++ (end ++ 10 ∷ (others ++ more))
+text_longer text end others more = append_assoc text (end ++ 10 ∷ others) more ∙ ap (λ (t : List ℕ). text ++ t) (append_assoc end (10 ∷ others) more)
+
 -- ---- the first line of a text
+
+-- no line ends in a text, or one does, and others follow
+pub data Split (text : List ℕ) : Type 0 where
+  no_end : has_no_end text ≡ true → Split text
+  cut : (line others : List ℕ) → has_no_end line ≡ true → text ≡ line ++ 10 ∷ others → Split text
+
+pub split_line : (text : List ℕ) → Split text
+split_line [] = no_end refl
+split_line (b ∷ text) = elim (eqb_tells b 10) [
+  | inl (t, same) ↦ cut [] text refl (ap (λ (x : ℕ). x ∷ text) same)
+  | inr (f, other) ↦ more f (split_line text)
+]
+  where
+    more : (b == 10) ≡ false → Split text → Split (b ∷ text)
+    more f (no_end none) = no_end (rw f none)
+    more f (cut line others none is) = cut (b ∷ line) others (rw f none) (ap (λ (t : List ℕ). b ∷ t) is)
 
 no_end_push : (text : List ℕ) (b : ℕ) → has_no_end text ≡ true → (b ≡ 10 → ⊥) → has_no_end (text ++ b ∷ []) ≡ true
 no_end_push [] b e apart = elim (eqb_tells b 10) [

@@ -23,4 +23,4 @@ returns-clause-ended g c =
     let f = c.in_ok-formula.formula in
     let known = subst (λ (t : Task). OfKnown t (IsFormula (places_by c.args.steps) (is_plan_by c.args.steps) c.args.horizon f)) c.task.ensures c.in_ok-formula.ensures.formula in
     ready r.task r.grounded c.in_ok-ready.ensures.task c.in_ok-ready.ensures.ready
-    (judged c.in_ok-verdict.verdict c.ended.ensures (is_verdict c.args.steps c.args.horizon r.grounded.task f (g.T.Tape.given c.verdict_on.new.tape).1 c.in_ok-verdict.verdict known (c.in_ok-verdict.ensures.verdict c.requires.opened)) (λ entries e. has_none c.args.steps c.args.horizon r.grounded.task f known (c.in_ok-verdict.ensures.refuted entries (ap Ok e))))
+    (judged c.in_ok-verdict.verdict c.ended.ensures (is_verdict c.args.steps c.args.horizon r.grounded.task f (g.T.Tape.given c.verdict_on.new.tape) c.in_ok-verdict.verdict known (c.in_ok-verdict.ensures.verdict c.requires.front)) (λ entries e. has_none c.args.steps c.args.horizon r.grounded.task f known (c.in_ok-verdict.ensures.refuted entries (ap Ok e))))

@@ -11,7 +11,7 @@ use Rattle.judge_top.proofs.decide.decide_request.Goals as goal
 
 pub returns-in_err-files-clause-cause : goal.returns-in_err-files-clause-cause
 returns-in_err-files-clause-cause g c =
-    handed _ _ (stops_for (seen c.args.request.now) c.domain.result.now c.problem.result.now c.domain.ensures c.problem.ensures _ _ (g.S.Shelf.failed c.args.shelf.now) (g.S.Shelf.failed c.take_all.new.shelf) (tape_run (g.T.Tape.faults c.args.tape.now) (g.T.Tape.faults c.args.tape.now) (g.T.Tape.given c.args.tape.now)))
+    handed _ _ (stops_for (seen c.args.request.now) c.domain.result.now c.problem.result.now c.domain.ensures c.problem.ensures _ _ (g.S.Shelf.failed c.args.shelf.now) (g.S.Shelf.failed c.take_all.new.shelf) (tape_run (g.T.Tape.faults c.args.tape.now) (g.T.Tape.faults c.args.tape.now) (g.T.Tape.given c.args.tape.now) (g.T.Tape.given c.args.tape.now)))
     c.in_err-files.field-0.0 c.from_residual.result c.from_residual.ensures.1 c.in_err-files.ensures.stops
 
 pub returns-in_err-files-clause-noted : goal.returns-in_err-files-clause-noted
@@ -44,4 +44,4 @@ returns-clause-cause g c =
     let d = c.domain.result.now in
     let p = c.problem.result.now in
     let is = both_taken (file_at (grounds d p)) d p _ _ taken.0 c.in_ok-files.files.items _ _ taken.1 taken.2 (rw c.as_slice.ensures.value at c.two_of.ensures.files) in
-    weaker _ _ (λ end h. taken_for (seen c.args.request.now) d p c.domain.ensures c.problem.ensures _ _ (g.S.Shelf.failed c.args.shelf.now) (g.S.Shelf.failed c.take_all.new.shelf) (tape_run (g.T.Tape.faults c.args.tape.now) (g.T.Tape.faults c.answer.new.tape) (g.T.Tape.given c.answer.new.tape)) end c.two_of.result.0.now c.two_of.result.1.now is h) c.answer.result c.answer.ensures.cause
+    weaker _ _ (λ end h. taken_for (seen c.args.request.now) d p c.domain.ensures c.problem.ensures _ _ (g.S.Shelf.failed c.args.shelf.now) (g.S.Shelf.failed c.take_all.new.shelf) (tape_run (g.T.Tape.faults c.args.tape.now) (g.T.Tape.faults c.answer.new.tape) (g.T.Tape.given c.args.tape.now) (g.T.Tape.given c.answer.new.tape)) end c.two_of.result.0.now c.two_of.result.1.now is h) c.answer.result c.answer.ensures.cause

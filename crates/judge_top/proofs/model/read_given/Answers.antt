@@ -1,19 +1,19 @@
-use Rattle.std.proofs.Common.{◌≡◌, ◌∙◌, ◌++◌, ℕ, List, take, sym, ap, subst, append-nil, rules}
-use Rattle.pl_io.specs.Tape.{Given}
-use Rattle.sat_text.specs.Values.{model_of}
-use Rattle.sat_text.specs.Stands.{HasRead}
+use Rattle.std.proofs.Common.{◌≡◌, ◌∙◌, ◌++◌, [], ℕ, List, take, sym, ap, subst, rules}
+use Rattle.pl_io.specs.Tape.{Given, given_more}
+use Rattle.sat_text.specs.Values.{NoText, model_of}
 use Rattle.judge_top.specs.Answers.{tape_run}
+use Rattle.judge_top.proofs.Given.{read_early}
 use Rattle.judge_top.proofs.model.read_given.Goals as goal
 
 pub returns-in-Ok-eq0-clause-given : goal.returns-in-Ok-eq0-clause-given
 returns-in-Ok-eq0-clause-given g c =
-    let before = (g.T.Tape.given c.reading.tape).1 in
     let zero : c.in-Ok-eq0.field-0 ≡ 0 = search rules in
-    let all = ap (λ (t : Given). t.1) c.in-Ok-eq0.ensures.given ∙ (ap (λ (k : ℕ). before ++ take k c.take.new.into) zero ∙ append-nil before) in
-    let read = subst (λ (bytes : List ℕ). HasRead c.args.variables bytes c.reading.reader) (sym all) c.reading.invariant.read in
-    c.finished.ensures c.args.variables (tape_run (g.T.Tape.faults c.args.tape.now) (g.T.Tape.faults c.take.new.self) (g.T.Tape.given c.take.new.self)) read
+    let end = c.in-Ok-eq0.ensures.given ∙ ap (λ (k : ℕ). given_more (g.T.Tape.given c.reading.tape) (take k c.take.new.into)) zero in
+    c.finished.ensures c.args.variables (g.T.Tape.given c.reading.tape) (tape_run (g.T.Tape.faults c.args.tape.now) (g.T.Tape.faults c.take.new.self) (g.T.Tape.given c.args.tape.now) (g.T.Tape.given c.take.new.self)) c.reading.invariant.read c.reading.invariant.goes end
 
+-- the count is not 0, since that is a case of its own
 pub returns-in-Some-clause-given : goal.returns-in-Some-clause-given
 returns-in-Some-clause-given g c =
-    let told = rw c.in-Some.is at (c.in_ok-refused-in-Ok.ensures.refused c.args.variables (g.T.Tape.given c.reading.tape).1 c.reading.invariant.read) in
-    ap (λ (t : Given). model_of c.args.variables t.1) c.in-Ok.ensures.given ∙ told
+    let piece = take c.in-Ok.field-0 c.take.new.into in
+    let told = rw c.in-Some.is at (c.in_ok-refused-in-Ok.ensures.refused c.args.variables (g.T.Tape.given c.reading.tape).bytes c.reading.invariant.read) in
+    read_early (g.T.Tape.given c.reading.tape) (g.T.Tape.given c.take.new.self) c.reading.invariant.goes piece c.in-Ok.ensures.given (search rules) c.args.variables (NoText c.in-Some.at) told

@@ -2,7 +2,7 @@ use Rattle.std.proofs.Common.{refl, arith, sym, ap, map, string_bytes}
 use Rattle.plan_endings.specs.Ends.{end_in}
 use Rattle.plan_endings.proofs.published.Stopped.{end_answers}
 use Rattle.judge_top.specs.declared.ended.Ended.TheVariants.{Plain, Usage}
-use Rattle.judge_top.proofs.Promises.{is_judged, is_accepted, is_rejected, is_no_proof, is_planned, is_model_told, is_no_model, is_no_text, is_told, read_fault, usage, not_taken, no_command, status_apart}
+use Rattle.judge_top.proofs.Promises.{is_judged, is_accepted, is_rejected, is_no_proof, is_planned, is_model_told, is_no_model, is_no_text, is_told, is_untaken, read_fault, usage, not_taken, no_command, status_apart}
 use Rattle.judge_top.proofs.top.judge.Goals as goal
 
 pub finish-requires : goal.finish-requires
@@ -36,6 +36,9 @@ returns-clause-no_text g c = is_no_text _ _ _ _ _ _ _ _ _ c.laws.ensures.of_task
 
 pub returns-clause-formula_told : goal.returns-clause-formula_told
 returns-clause-formula_told g c = is_told _ _ _ _ _ _ _ _ _ c.laws.ensures.of_tasks (returns-clause-due g c)
+
+pub returns-clause-untaken : goal.returns-clause-untaken
+returns-clause-untaken g c = is_untaken _ _ _ _ _ _ _ _ _ (returns-clause-due g c)
 
 pub returns-clause-planned : goal.returns-clause-planned
 returns-clause-planned g c = is_planned _ _ _ _ _ _ _ _ _ c.laws.ensures (returns-clause-due g c)

@@ -1,6 +1,6 @@
 use Rattle.std.proofs.Common.{◌≡◌, ◌++◌, ℕ, List, length}
 use Rattle.lrat_judge.specs.Reached.{HasRead}
-use Rattle.lrat_judge.proofs.judge.Judge.take.Given as goal
+use Rattle.lrat_judge.proofs.judge.Judge.take_lines.Given as goal
 
 -- the formula is the same, and of a text that was read, and the piece, a front was read and the rest is left
 abbrev pub invariant-loop-line : goal.invariant-loop-line
