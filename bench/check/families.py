@@ -106,6 +106,38 @@ def long_plan(calls, count):
     domain = f"(define (domain d) (:constants {objects(count)}) (:predicates (p ?x) (q)) (:action a :effect (and (q) {words('(p o#)', count)})))"
     return ["check", "d", "p", "l"], [domain, task("o"), "(a)\n" * calls]
 
+def atoms_of(predicate, arguments, count, atoms, step=2654435761):
+    """So many atoms over so many objects, no two equal, in an order that is none of their own: the digits of the multiples of a prime."""
+    numbers = [number * step % count**arguments for number in range(atoms)]
+    return " ".join(f"({predicate} {' '.join(f'o{number // count**place % count}' for place in range(arguments))})" for number in numbers)
+
+def wide_relation(arguments, count, atoms):
+    terms = words("?v#", arguments)
+    domain = f"(define (domain d) (:predicates (p {terms}) (q)) (:action a :parameters ({terms}) :precondition (p {terms}) :effect (q)))"
+    return ["ground", "d", "p"], [domain, task(objects(count), atoms_of("p", arguments, count, atoms))]
+
+def wide_relations(arguments, shared, count, atoms):
+    terms, others = words("?v#", arguments), words("?v#", arguments, arguments - shared)
+    every = words("?v#", 2 * arguments - shared)
+    domain = f"""(define (domain d) (:predicates (p {terms}) (r {terms}) (q))
+ (:action a :parameters ({every}) :precondition (and (p {terms}) (r {others})) :effect (q)))"""
+    init = f"{atoms_of('p', arguments, count, atoms)} {atoms_of('r', arguments, count, atoms, 1000000007)}"
+    return ["ground", "d", "p"], [domain, task(objects(count), init)]
+
+def grid_of_cubes(side):
+    domain = """(define (domain d) (:predicates (at ?x ?y ?z) (next ?x ?y ?z ?a ?b ?c))
+ (:action go :parameters (?x ?y ?z ?a ?b ?c) :precondition (and (at ?x ?y ?z) (next ?x ?y ?z ?a ?b ?c)) :effect (and (not (at ?x ?y ?z)) (at ?a ?b ?c))))"""
+    places = [(x, y, z) for x in range(side) for y in range(side) for z in range(side)]
+    sides = [(1, 0, 0), (-1, 0, 0), (0, 1, 0), (0, -1, 0), (0, 0, 1), (0, 0, -1)]
+    others = [(place, tuple(p + s for p, s in zip(place, by))) for place in places for by in sides]
+    doors = " ".join(f"(next {' '.join(f'o{p}' for p in place + other)})" for place, other in others if all(0 <= p < side for p in other))
+    last = f"o{side - 1}"
+    return ["ground", "d", "p"], [domain, task(objects(side), f"(at o0 o0 o0) {doors}", f"(at {last} {last} {last})")]
+
+def unused_objects(calls, count):
+    domain = "(define (domain d) (:predicates (p ?x) (q)) (:action a :effect (forall (?x ?y) (when (p ?x) (q)))))"
+    return ["check", "d", "p", "l"], [domain, task(objects(count), words("(p o#)", count)), "(a)\n" * calls]
+
 # The name of each family, its sizes from the least, which is a row of the gate, to the one that is measured.
 FAMILIES = [
     ("a condition that stands again and again", same_conditions, [(30, 3), (1000, 40)]),
@@ -128,6 +160,12 @@ FAMILIES = [
     ("wide clauses", wide_clauses, [(6,), (60,)]),
     ("a long name", long_name, [(300, 4), (10000, 60)]),
     ("a long plan", long_plan, [(20, 20), (20000, 400)]),
+    ("a relation of two objects and many places", wide_relation, [(4, 2, 6), (20, 2, 9000)]),
+    ("a relation of many places", wide_relation, [(3, 4, 12), (8, 6, 16000)]),
+    ("a relation of some places and many objects", wide_relation, [(2, 5, 9), (4, 44, 16000)]),
+    ("two relations of many places", wide_relations, [(3, 2, 3, 8), (6, 3, 5, 1200)]),
+    ("a grid of cubes", grid_of_cubes, [(2,), (12,)]),
+    ("a variable over many objects that no effect uses", unused_objects, [(4, 6), (300, 1999)]),
 ]
 
 def members(which):

@@ -9,7 +9,7 @@ use Rattle.std.proofs.lemmas.List.Concat.{flat_map-append, flat_map-cons}
 use Rattle.pd_model.specs.State.{same_atom, is_in, SameState}
 use Rattle.pd_model.specs.Instance.{value, instance, holds, all_hold}
 use Rattle.pd_model.specs.Exec.{active_at}
-use Rattle.pd_model.specs.own.Variables.{is_variable, atom_names, cond_names, effect_names}
+use Rattle.pd_model.specs.own.Variables.{is_variable, atom_names, cond_names, effect_names, StandForAll}
 use Rattle.pd_model.specs.declared.atoms.Term.{Term}
 use Rattle.pd_model.specs.declared.atoms.Term.TheVariants.{Object, Variable}
 use Rattle.pd_model.specs.declared.atoms.Pattern.{Pattern}
@@ -108,10 +108,13 @@ all_in g k (o ∷ os) same a =
     (λ i. is_in a k || is_in a (flat_map-cons g o os i)) ∙ (λ i. is_in a k || list_any-append (same_atom a) (g o) (flat_map g os) i)
     ∙ (λ i. is_in a k || (is_in a (same o i) || is_in a (flat_map g os))) ∙ again (is_in a k) (is_in a (flat_map g os)) (all_in g k os same a)
 
-first_is_all : (g : ℕ → List Atom) (os : List ℕ) → ((o q : ℕ) → g o ≡ g q) → SameState (flat_map g (take 1 os)) (flat_map g os)
-first_is_all g [] same a = refl
-first_is_all g (o ∷ os) same a =
-    let one : flat_map g (take 1 (o ∷ os)) ≡ g o = rw (flat_map-cons) (append-nil (g o)) in
+one_is_all : (g : ℕ → List Atom) (some os : List ℕ) → length some ≡ length (take 1 os) → ((o q : ℕ) → g o ≡ g q) → SameState (flat_map g some) (flat_map g os)
+one_is_all g [] [] long same a = refl
+one_is_all g [] (o ∷ os) long same a = absurd (omega (arith, long))
+one_is_all g (x ∷ some) [] long same a = absurd (omega (arith, long))
+one_is_all g (x ∷ y ∷ some) (o ∷ os) long same a = absurd (omega (arith, long))
+one_is_all g (x ∷ []) (o ∷ os) long same a =
+    let one : flat_map g (x ∷ []) ≡ g o = rw (flat_map-cons) (append-nil (g x)) ∙ same x o in
     (λ i. is_in a (one i)) ∙ sym (all_in g (g o) os (λ q. same q o) a) ∙ sym (list_any-append (same_atom a) (g o) (flat_map g os))
     ∙ (λ i. is_in a (sym (flat_map-cons g o os) i))
 
@@ -120,10 +123,12 @@ onto found all old into same h a =
     h a ∙ list_any-append (same_atom a) found old ∙ (λ i. same a i || is_in a old) ∙ sym (list_any-append (same_atom a) all old)
 
 -- the objects that are tried stand for all
-pub tried_all : (s : List Atom) (e : Effect) (xs os : List ℕ) (ts : List (List ℕ)) (named : Bool) (old into : List Atom) → effect_names (length xs) e ≡ named
-    → SameState into (flat_map (λ o. flat_map (λ more. active_at s e (xs ++ o ∷ more)) ts) (cond named os (take 1 os)) ++ old)
+pub tried_all : (s : List Atom) (e : Effect) (xs some os : List ℕ) (ts : List (List ℕ)) (named : Bool) (old into : List Atom) → effect_names (length xs) e ≡ named
+    → StandForAll named os some
+    → SameState into (flat_map (λ o. flat_map (λ more. active_at s e (xs ++ o ∷ more)) ts) some ++ old)
     → SameState into (flat_map (λ o. flat_map (λ more. active_at s e (xs ++ o ∷ more)) ts) os ++ old)
-tried_all s e xs os ts true old into is h = h
-tried_all s e xs os ts false old into is h =
+tried_all s e xs some os ts true old into is same h =
+    subst (λ (os : List ℕ). SameState into (flat_map (λ o. flat_map (λ more. active_at s e (xs ++ o ∷ more)) ts) os ++ old)) same h
+tried_all s e xs some os ts false old into is long h =
     let g : ℕ → List Atom = λ o. flat_map (λ more. active_at s e (xs ++ o ∷ more)) ts in
-    onto (flat_map g (take 1 os)) (flat_map g os) old into (first_is_all g os (λ o q. tuples_same s e xs o q ts is)) h
+    onto (flat_map g some) (flat_map g os) old into (one_is_all g some os long (λ o q. tuples_same s e xs o q ts is)) h

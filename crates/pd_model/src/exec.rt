@@ -1,14 +1,14 @@
 // The atoms of the active instances of effects. They are kept as a set, and a variable that an effect does not name stands for
 // one object alone: so the atoms take as much room as there are of them, and not as there are tuples of objects.
-ghost use Rattle.std.specs.Prelude.{◌≡◌, ◌++◌, [], IfOk, OnOk, take, if◌then◌else◌};
+ghost use Rattle.std.specs.Prelude.{◌≡◌, ◌++◌, [], IfOk, OnOk, if◌then◌else◌};
 ghost use Rattle.std.specs.List.{flat_map};
 ghost use Rattle.pd_model.specs.State.{SameState};
 ghost use Rattle.pd_model.specs.Instance.{agrees};
-ghost use Rattle.pd_model.specs.Fits.{tuples};
+ghost use Rattle.pd_model.specs.Fits.{fitting, tuples};
 ghost use Rattle.pd_model.specs.Exec.{active, active_at, of_sign};
-ghost use Rattle.pd_model.specs.own.Variables.{effect_names};
+ghost use Rattle.pd_model.specs.own.Variables.{StandForAll, effect_names};
 
-use crate::fits::fitting_objects;
+use crate::fits::{fitting_objects, one_fitting};
 use crate::instance::{are_true, instance_of};
 use crate::state::State;
 use crate::variables::effect_names;
@@ -31,16 +31,20 @@ fn add_one(
     Ok(())
 }
 
-/// The objects to be tried for the variable at a place: all, or the first where the effect does not name it.
-fn tried<'a>(fitting: &'a [u32], place: usize, effect: &Effect) -> &'a [u32]
-    ensures { result.now ≡ (if effect_names place effect.now then fitting.now else take 1 fitting.now) }
+/// The objects to be tried for the variable at a place: all that fit, or one of them where the effect does not name it.
+fn tried(
+    alloc: Global,
+    p: &Pddl,
+    kind: u32,
+    place: usize,
+    effect: &Effect,
+) -> Result<Vec<u32>, Memory>
+    ensures { IfOk result (λ objects. StandForAll (effect_names place effect.now) (fitting p.now kind) objects.items) }
 {
     if effect_names(place, effect) {
-        return fitting;
-    }
-    match fitting.first() {
-        None => fitting,
-        Some(_) => &fitting[..1],
+        fitting_objects(alloc, p, kind)
+    } else {
+        one_fitting(alloc, p, kind)
     }
 }
 
@@ -60,8 +64,8 @@ fn add_active(
     let Some((kind, rest)) = over.split_first() else {
         return add_one(alloc, state, objects, effect, into);
     };
-    let fitting = fitting_objects(alloc, p, *kind)?;
-    for o in tried(&fitting, objects.len(), effect) {
+    let tried = tried(alloc, p, *kind, objects.len(), effect)?;
+    for o in &tried {
         objects.push(*o)?;
         add_active(alloc, p, state, objects, rest, effect, into)?;
         objects.pop();

@@ -1,5 +1,5 @@
 -- Which variables an effect names, each by its place.
-use Rattle.std.specs.Prelude.{ℕ, ◌==◌, ◌||◌, Bool, false}
+use Rattle.std.specs.Prelude.{◌≡◌, ℕ, ◌==◌, ◌||◌, Bool, true, false, List, length, take}
 use Rattle.std.specs.List.{list_any}
 use Rattle.pd_model.specs.declared.atoms.Term.{Term}
 use Rattle.pd_model.specs.declared.atoms.Term.TheVariants.{Object, Variable}
@@ -25,3 +25,8 @@ cond_names place (Same left right want) = is_variable place left || is_variable 
 -- whether an effect names it, in its atom or its condition
 abbrev pub effect_names : ℕ → Effect → Bool
 effect_names place e = atom_names place e.atom || list_any (cond_names place) e.cond
+
+-- objects stand for all of a list: they are all of it where the variable is named, and else one where there is one
+abbrev pub StandForAll : Bool → List ℕ → List ℕ → Type 0
+StandForAll true all some = some ≡ all
+StandForAll false all some = length some ≡ length (take 1 all)

@@ -17,7 +17,7 @@ loop-o-preserved t c =
     let f = active_at c.args.state.now c.args.effect.now in
     let added = rw (c.in_ok-push.ensures.items, c.loop-o.invariant.0) at c.in_ok-add_active.ensures.added in
     let kept = rw (c.in_ok-push.ensures.items, c.loop-o.invariant.0) at c.in_ok-add_active.ensures.kept in
-    let more = one_more f c.args.objects.now.items (tuples c.args.p.now c.in-Some.rest.now) c.tried-o-items.result.now c.loop-o.o-index _ c.args.into.now c.loop-o.into c.add_active.new.into c.loop-o-test.true (get_or_default c.tried-o-items.result.now c.loop-o.o-index _ _ c.loop-o-test.true) c.loop-o.invariant.1 added in
+    let more = one_more f c.args.objects.now.items (tuples c.args.p.now c.in-Some.rest.now) c.deref-o-items.result.now c.loop-o.o-index _ c.args.into.now c.loop-o.into c.add_active.new.into c.loop-o-test.true (get_or_default c.deref-o-items.result.now c.loop-o.o-index _ _ c.loop-o-test.true) c.loop-o.invariant.1 added in
     (popped c.args.objects.now.items c.pop.new.self.items c.add_active.new.objects.items _ _ kept (sym c.add_active.new.objects.ok.0) c.pop.ensures.rest, more)
 
 pub returns-clause-added : goal.returns-clause-added
@@ -28,6 +28,7 @@ returns-clause-added t c =
     let f = active_at s e in
     let rest = tuples c.args.p.now c.in-Some.rest.now in
     let fits = fitting c.args.p.now c.in-Some.kind.now in
-    let some = rw (take_all c.loop-o.o-index c.tried-o-items.result.now c.loop-o-test.false, c.tried-o-items.ensures, c.len.ensures, c.args.objects.now.ok.0, c.deref-2.ensures.value, c.in_ok-fitting.ensures) at c.loop-o.invariant.1 in
-    let all = tried_all s e objects fits rest (effect_names (length objects) e) c.args.into.now c.loop-o.into refl some in
+    let some = rw (take_all c.loop-o.o-index c.deref-o-items.result.now c.loop-o-test.false) at c.loop-o.invariant.1 in
+    let stand = rw (c.len.ensures, c.args.objects.now.ok.0, ← c.deref-o-items.ensures.value) at c.in_ok-tried.ensures in
+    let all = tried_all s e objects c.deref-o-items.result.now fits rest (effect_names (length objects) e) c.args.into.now c.loop-o.into refl stand some in
     rw (c.in-Some.ensures.cases.0, by_first (λ more. f (objects ++ more)) rest fits) all
