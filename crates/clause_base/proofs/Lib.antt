@@ -4,3 +4,4 @@ pub mod JoinedLemmas
 pub mod WorkedRows
 pub mod PairFills
 pub mod published
+pub mod DivisionLaw

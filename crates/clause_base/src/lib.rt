@@ -19,6 +19,7 @@
 pub mod chooser;
 pub mod clause;
 pub mod clause_list;
+pub mod divisor;
 pub mod formula;
 pub mod literal;
 pub mod log;

@@ -1,5 +1,5 @@
 //! A table of the clauses of two literals by their literals.
-ghost use Rattle.std.specs.Prelude.{◌≡◌, ℕ, ◌+◌, ◌≤◌, [], length, IfOk};
+ghost use Rattle.std.specs.Prelude.{◌≡◌, ℕ, ◌+◌, ◌≤◌, [], length, true, IfOk};
 ghost use Rattle.clause_base.specs.Pairs.{pairs_of, pairs_from};
 
 use crate::clause_list::ClauseList;
@@ -65,6 +65,13 @@ impl PairTable {
         let mut items = vec![in alloc; none; all as usize]?;
         fill(clauses, &mut offsets, &mut items);
         Ok(PairTable { offsets, items })
+    }
+
+    /// Whether it is known to have no pairs: so it is where none of its clauses has two literals.
+    pub fn is_empty(&self) -> bool
+        ensures { result ≡ true → (x : ℕ) → pairs_of self.now x ≡ [] }
+    {
+        self.offsets.len() == 0
     }
 
     /// No pairs.

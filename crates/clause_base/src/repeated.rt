@@ -214,8 +214,8 @@ impl Repeated {
         requires { number < self.now.horizon * length self.now.step }
         ensures { slice_get (all_steps self.now) number ≡ Some result }
     {
-        let count = self.sizes.per_step as u32;
-        self.step_clause(number / count, number % count)
+        let parts = self.sizes.per_step.parts(number);
+        self.step_clause(parts.quotient, parts.rest)
     }
 
     /// The clause with a number among those of all times.
@@ -224,8 +224,8 @@ impl Repeated {
         requires { number < (self.now.horizon + 1) * length self.now.time }
         ensures { slice_get (all_times self.now) number ≡ Some result }
     {
-        let count = self.sizes.per_time as u32;
-        self.time_clause(number / count, number % count)
+        let parts = self.sizes.per_time.parts(number);
+        self.time_clause(parts.quotient, parts.rest)
     }
 
     /// The clause with this number: first come those of the steps, step after step, then those of the times.

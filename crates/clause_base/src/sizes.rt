@@ -2,6 +2,7 @@
 ghost use Rattle.std.specs.Prelude.{◌≡◌, ◌+◌, ◌*◌, ◌≤◌, length, All};
 ghost use Rattle.clause_base.specs.Clause.{IsClause};
 
+use crate::divisor::Divisor;
 use crate::shared_list::SharedList;
 
 /// How many variables all steps have of their own, and how many clauses there are of one step, of one time, of all steps,
@@ -9,8 +10,8 @@ use crate::shared_list::SharedList;
 #[derive(Clone, Copy)]
 pub(crate) struct Sizes {
     pub(crate) first: u32,
-    pub(crate) per_step: usize,
-    pub(crate) per_time: usize,
+    pub(crate) per_step: Divisor,
+    pub(crate) per_time: Divisor,
     pub(crate) steps: u32,
     pub(crate) all: u32,
 }
@@ -32,8 +33,8 @@ pub(crate) fn sizes_of(horizon: u32, width: u32, step: &SharedList, time: &Share
     let steps = horizon as usize * per_step;
     Sizes {
         first: horizon * width,
-        per_step,
-        per_time,
+        per_step: Divisor::of(per_step),
+        per_time: Divisor::of(per_time),
         steps: steps as u32,
         all: (steps + (horizon as usize + 1) * per_time) as u32,
     }
