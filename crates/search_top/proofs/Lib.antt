@@ -1,0 +1,4 @@
+mod Lines
+mod Runs
+mod Promises
+mod Fit
