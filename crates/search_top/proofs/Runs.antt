@@ -34,7 +34,7 @@ pub numbers_long : (g : Grounded) (calls : List Call) (actions : List ℕ) → A
 numbers_long g [] [] numbers = refl
 numbers_long g [] (a ∷ others) numbers = absurd numbers
 numbers_long g (c ∷ cs) [] numbers = absurd numbers
-numbers_long g (c ∷ cs) (a ∷ others) numbers = ap suc (numbers_long g cs as numbers.1)
+numbers_long g (c ∷ cs) (a ∷ others) numbers = ap suc (numbers_long g cs others numbers.1)
 
 -- the calls of a run to the goal are a plan
 pub run_is_plan : ActionsAreCalls → GoalsAgree → (p : Parts) (g : Grounded) (actions : List ℕ) → IsGrounded p g → IsRunToGoal g.task actions → (calls : List Call) × AreNumbers g calls actions × IsPlan p calls

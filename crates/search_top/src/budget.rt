@@ -5,15 +5,14 @@ ghost use Rattle.search_top.specs.Budget.{held_by, budget_of};
 use crate::limits::MEGABYTE;
 use crate::request::How;
 use gt_core::task::Task;
-use state_store::store::most_within;
 
 // How many states so many bytes hold.
 fn held_by(how: How, task: &Task, bytes: u64) -> u32
     ensures { result ≡ held_by how task.now bytes }
 {
     match how {
-        How::Greedy => most_within(task.facts(), bytes),
-        How::Least => most_within(task.facts(), bytes),
+        How::Greedy => greedy_walk::bytes::most_within(task.facts(), bytes),
+        How::Least => state_store::store::most_within(task.facts(), bytes),
     }
 }
 

@@ -4,13 +4,11 @@ ghost use Rattle.state_search.specs.Answer.{IsAnswer};
 ghost use Rattle.search_top.specs.Answers.{IsLeastBy};
 
 use crate::request::How;
+use greedy_walk::greedy::greedy;
 use gt_core::task::Task;
-use novelty::proposer::Novelty;
 use pl_io::Memory;
-use state_search::answer::{Answer, End};
-use state_search::follow::follow;
+use state_search::answer::Answer;
 use state_search::least::least;
-use state_search::shorten::shorten;
 use std::alloc::Global;
 
 /// What a walk comes to that may enter so many states.
@@ -23,19 +21,4 @@ pub(crate) fn walk(alloc: Global, how: How, task: &Task, most: u32) -> Result<An
         How::Greedy => greedy(alloc, task, most),
         How::Least => least(alloc, task, most),
     }
-}
-
-// The same after proposals by novelty; a plan is shortened.
-fn greedy(alloc: Global, task: &Task, most: u32) -> Result<Answer, Memory>
-    requires { 0 < most }
-    ensures { IfOk result (λ a. IsAnswer task.now most a) }
-{
-    let mut proposer = Novelty::new(alloc, task)?;
-    let answer = follow(alloc, task, most, &mut proposer)?;
-    let Answer { states, end } = answer;
-    let end = match end {
-        End::Plan(actions) => End::Plan(shorten(alloc, task, actions)?),
-        other => other,
-    };
-    Ok(Answer { states, end })
 }
