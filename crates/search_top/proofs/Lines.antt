@@ -1,6 +1,6 @@
 -- The lines of a report, and what a reader of plan files finds in them.
-use Rattle.std.proofs.Common.{◌≡◌, ◌<◌, ◌^◌, ℕ, true, List, [], ◌∷◌, ◌++◌, map, length, Ok, codes, refl, sym, ap, subst, append_assoc}
-use Rattle.std.specs.Prelude.{IsTrue, decimal}
+use Rattle.std.proofs.Common.{◌≡◌, ◌<◌, ◌^◌, ℕ, true, List, [], ◌∷◌, ◌++◌, map, length, Result, Ok, Err, codes, refl, sym, ap, subst, append_assoc, ◌∙◌}
+use Rattle.std.specs.Prelude.{IsTrue, OnOk, decimal}
 use Rattle.std.specs.List.{flat_map, list_all}
 use Rattle.std.proofs.lemmas.Option.{get_or_from_slice_get}
 use Rattle.report_lines.specs.Lines.{is_line, joined}
@@ -27,6 +27,15 @@ use Rattle.search_top.specs.declared.request.How.TheVariants.{Greedy, Least}
 pub one_by_one : (line : ℕ → List ℕ) (ns : List ℕ) → flat_map (λ n. joined (line n ∷ [])) ns ≡ joined (map line ns)
 one_by_one line [] = refl
 one_by_one line (n ∷ ns) = append_assoc (line n) (10 ∷ []) (flat_map (λ k. joined (line k ∷ [])) ns) ∙ ap (λ (rest : List ℕ). line n ++ 10 ∷ rest) (one_by_one line ns)
+
+-- a line and then others are appended
+pub lines_pushed : {X E : Type 0} (r : Result X E) (first : List ℕ) (line : ℕ → List ℕ) (ns old middle new : List ℕ) → middle ≡ old ++ joined (first ∷ [])
+    → OnOk r (new ≡ middle ++ flat_map (λ n. joined (line n ∷ [])) ns) → OnOk r (new ≡ old ++ joined (first ∷ map line ns))
+lines_pushed (Err e) first line ns old middle new begun h = tt
+lines_pushed (Ok x) first line ns old middle new begun h =
+    let rest : List ℕ = flat_map (λ n. joined (line n ∷ [])) ns in
+    let all : (first ++ 10 ∷ []) ++ rest ≡ first ++ 10 ∷ joined (map line ns) = append_assoc first (10 ∷ []) rest ∙ ap (λ (t : List ℕ). first ++ 10 ∷ t) (one_by_one line ns) in
+    h ∙ (ap (λ (t : List ℕ). t ++ rest) begun ∙ (append_assoc old (first ++ 10 ∷ []) rest ∙ ap (λ (t : List ℕ). old ++ t) all))
 
 number_line : (n : ℕ) → n < 2 ^ 64 → is_line (decimal n) ≡ true
 number_line n small = word_line (decimal n) (decimal_word n small)

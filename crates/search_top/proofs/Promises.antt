@@ -26,7 +26,7 @@ use Rattle.plan_tasks.proofs.published.Printing.{printed_is}
 use Rattle.plan_tasks.proofs.published.Statuses.{task_between, files_between}
 use Rattle.plan_tasks.proofs.published.TellingPlans.{calls_fit}
 use Rattle.search_top.specs.declared.request.How.{How}
-use Rattle.search_top.specs.declared.request.How.TheVariants as how
+use Rattle.search_top.specs.declared.request.How.TheVariants as hows
 use Rattle.search_top.specs.declared.ended.Ended.{Ended}
 use Rattle.search_top.specs.declared.ended.Ended.TheVariants.{Plain, Walked, Usage}
 use Rattle.search_top.specs.Seen.{Seen, searches, names_of}
@@ -111,7 +111,7 @@ unfinished ends.Unfinished two = refl
 
 -- A task that is ready, and what a walk through its states came to.
 module _ (laws : WalkLaws) (how : How) (n m : ℕ) (task : Parts) (g : Grounded) (is : IsReady task g) (end : Ended) (a : AnswersSearch how n m task g end) where
-  most : ℕ
+  abbrev most : ℕ
   most = budget_of how n m g.task
 
   -- with status 0 it is a plan, which the text tells
@@ -134,7 +134,7 @@ module _ (laws : WalkLaws) (how : How) (n m : ℕ) (task : Parts) (g : Grounded)
     plan_runs = (its_plan.0, its_text, its_plan.2)
 
     -- no plan has fewer calls, where a least one was asked for
-    pub plan_is_least : how ≡ how.Least → PlanIsLeast (text_of end) task
+    pub plan_is_least : how ≡ hows.Least → PlanIsLeast (text_of end) task
     plan_is_least least =
         let no_shorter = subst (λ (e : End). IsLeast g.task e) found.1 (subst (λ (h : How). IsLeastBy h g.task a.answer.end) least a.least) in (
           its_plan.0,
@@ -207,7 +207,7 @@ module _ (heard hears : List Heard) (failed fails : List (List ℕ)) (words : Li
         of_files domain problem how n m 0 (omega arith) (PlanRuns text)
         (λ task g ready_is end at put a. subst (λ (t : List ℕ). PlanRuns t task) (sym (printed_is before after text (text_of end) printed put)) (plan_runs laws how n m task g ready_is end a at)) due zero is
 
-    pub least : how ≡ how.Least → (text : List ℕ) → status ≡ 0 → Printed before after text → OfFiles heard hears domain problem (PlanIsLeast text)
+    pub least : how ≡ hows.Least → (text : List ℕ) → status ≡ 0 → Printed before after text → OfFiles heard hears domain problem (PlanIsLeast text)
     least by text zero printed =
         of_files domain problem how n m 0 (omega arith) (PlanIsLeast text)
         (λ task g ready_is end at put a. subst (λ (t : List ℕ). PlanIsLeast t task) (sym (printed_is before after text (text_of end) printed put)) (plan_is_least laws how n m task g ready_is end a at by)) due zero is

@@ -1,10 +1,10 @@
 -- What a run to the goal means for the task, and for a text that has its calls.
-use Rattle.std.proofs.Common.{◌≡◌, ◌<◌, ◌∙◌, ℕ, suc, List, [], ◌∷◌, length, Option, refl, sym, ap, subst}
+use Rattle.std.proofs.Common.{◌≡◌, ◌<◌, ◌∙◌, ℕ, suc, Bool, List, [], ◌∷◌, length, Option, refl, sym, ap, subst}
 use Rattle.std.specs.Prelude.{IsTrue}
 use Rattle.std.specs.List.{AllByRecursion}
 use Rattle.std.proofs.lemmas.List.{length-map}
 use Rattle.gt_core.specs.Task.{Task, initial_state}
-use Rattle.gt_core.specs.Execution.{CanRun, run}
+use Rattle.gt_core.specs.Execution.{CanRun, run, next_of_one}
 use Rattle.gt_core.specs.Laws.{IsRunToGoal}
 use Rattle.pd_model.specs.Plan.{IsPlan, meets_goal}
 use Rattle.pd_model.specs.declared.calls.Call.{Call}
@@ -17,9 +17,9 @@ use Rattle.state_search.specs.declared.answer.End.TheVariants as ends
 use Rattle.search_top.specs.own.Below.{IsBelow}
 
 -- actions that can run are actions
-able_below : (task : Task) (s : ℕ → _) (actions : List ℕ) → CanRun task s actions → AllByRecursion (λ a. a < length task.actions) actions
+able_below : (task : Task) (s : ℕ → Bool) (actions : List ℕ) → CanRun task s actions → AllByRecursion (λ a. a < length task.actions) actions
 able_below task s [] can = tt
-able_below task s (a ∷ others) can = (can.0.action, able_below task _ others can.1)
+able_below task s (a ∷ others) can = (can.0.action, able_below task (next_of_one task s a) others can.1)
 
 -- those of a plan have calls
 pub end_below : (p : Parts) (g : Grounded) (most states : ℕ) (end : End) → IsGrounded p g → IsEnd g.task most states end → IsBelow (length g.calls) end
