@@ -1,12 +1,12 @@
 -- The lines of a report, and what a reader of plan files finds in them.
 use Rattle.std.proofs.Common.{◌≡◌, ◌<◌, ◌^◌, ℕ, true, List, [], ◌∷◌, ◌++◌, map, length, Result, Ok, Err, codes, refl, sym, ap, subst, append_assoc, ◌∙◌}
-use Rattle.std.specs.Prelude.{IsTrue, OnOk, decimal}
+use Rattle.std.specs.Prelude.{OnOk, decimal}
 use Rattle.std.specs.List.{flat_map, list_all}
 use Rattle.std.proofs.lemmas.Option.{get_or_from_slice_get}
 use Rattle.report_lines.specs.Lines.{is_line, joined}
 use Rattle.report_lines.proofs.published.ReadBack.{both}
 use Rattle.report_lines.proofs.published.Entries.{line-append, word_line, decimal_word}
-use Rattle.pd_sexp.specs.Bytes.{semicolon, line_feed}
+use Rattle.pd_sexp.specs.Bytes.{line_feed}
 use Rattle.pd_model.specs.Fits.{is_call}
 use Rattle.pd_model.specs.Text.{call_text}
 use Rattle.pd_model.specs.WellFormed.{IsWellFormed}

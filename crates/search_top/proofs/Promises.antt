@@ -1,24 +1,20 @@
 -- The promises of the top call, each from what it needs alone: mostly that its ending has a cause and that its text is written.
-use Rattle.std.proofs.Common.{◌≡◌, ◌≤◌, ℕ, List, [], ◌∷◌, ◌++◌, length, Option, Some, None, refl, sym, ap, subst, ◌∙◌, arith, inl, inr}
+use Rattle.std.proofs.Common.{◌≡◌, ◌≤◌, ℕ, List, [], ◌∷◌, ◌++◌, Option, Some, None, refl, sym, ap, subst, ◌∙◌, arith, inl, inr}
 use Rattle.std.specs.Prelude.{Contains, ◌⊎◌, Ok}
-use Rattle.pl_io.specs.Outside.{Heard, whole, appended}
+use Rattle.pl_io.specs.Outside.{Heard, appended}
 use Rattle.pd_model.specs.Plan.{IsPlan}
 use Rattle.pd_model.specs.declared.calls.Call.{Call}
 use Rattle.pd_model.specs.declared.parts.Parts.{Parts}
 use Rattle.pd_plan.specs.PlanFile.{plan_file}
-use Rattle.gt_core.specs.Task.{Task}
 use Rattle.grounding_defs.specs.Grounded.{Grounded}
 use Rattle.grounding_defs.specs.Laws.{AreNumbers}
-use Rattle.state_search.specs.Answer.{AreEntered, IsAnswer, IsEnd, IsLeast}
-use Rattle.state_search.specs.declared.answer.Answer.{Answer}
+use Rattle.state_search.specs.Answer.{AreEntered, IsEnd, IsLeast}
 use Rattle.state_search.specs.declared.answer.End.{End}
 use Rattle.state_search.specs.declared.answer.End.TheVariants as ends
-use Rattle.plan_endings.specs.Ending as plain
-use Rattle.plan_endings.specs.declared.ending.Ending.{Ending}
 use Rattle.plan_endings.specs.declared.ending.File.TheVariants.{Proof}
 use Rattle.plan_endings.proofs.published.Statuses.{six_seven, six_seven_eight}
 use Rattle.input_files.specs.Limits.{file_in}
-use Rattle.input_files.specs.Files.{AreTaken, StopsFrom, RoseAmong}
+use Rattle.input_files.specs.Files.{RoseAmong}
 use Rattle.input_files.proofs.published.Hearing.{two_taken}
 use Rattle.plan_tasks.specs.Tasks.{AreTask, IsReady}
 use Rattle.plan_tasks.specs.Claims.{Printed, OfFiles}
@@ -28,7 +24,7 @@ use Rattle.plan_tasks.proofs.published.TellingPlans.{calls_fit}
 use Rattle.search_top.specs.declared.request.How.{How}
 use Rattle.search_top.specs.declared.request.How.TheVariants as hows
 use Rattle.search_top.specs.declared.ended.Ended.{Ended}
-use Rattle.search_top.specs.declared.ended.Ended.TheVariants.{Plain, Walked, Usage}
+use Rattle.search_top.specs.declared.ended.Ended.TheVariants.{Walked, Usage}
 use Rattle.search_top.specs.Seen.{Seen, searches, names_of}
 use Rattle.search_top.specs.Requested.{requested}
 use Rattle.search_top.specs.Budget.{budget_of}
@@ -37,7 +33,7 @@ use Rattle.search_top.specs.Ended.{status_of, status_of_walk, text_of}
 use Rattle.search_top.specs.Answers.{Answers, AnswersSearch, IsLeastBy, OnceReady, not_ready, ready}
 use Rattle.search_top.specs.Causes.{Comes, no_request, asked, ComesFor, stopped, decided, HasFault, names_in}
 use Rattle.search_top.specs.Laws.{WalkLaws}
-use Rattle.search_top.specs.Headline.{PlanRuns, PlanIsLeast, HasNoPlan, OfGround, IsSpent}
+use Rattle.search_top.specs.Headline.{PlanRuns, PlanIsLeast, HasNoPlan, IsSpent}
 use Rattle.search_top.proofs.Lines.{report_read}
 use Rattle.search_top.proofs.Runs.{numbers_long, run_is_plan}
 

@@ -8,12 +8,8 @@ use Rattle.pd_plan.specs.PlanFile.{plan_file}
 use Rattle.grounding_defs.specs.Grounded.{Grounded, IsGrounded}
 use Rattle.state_search.specs.Answer.{AreEntered}
 pub use Rattle.never_laws.specs.Plans.{HasNoPlan}
-use Rattle.plan_endings.specs.declared.ending.Ending.{Ending}
-use Rattle.plan_tasks.specs.Tasks.{StopsTask}
 use Rattle.search_top.specs.declared.request.How.{How}
-use Rattle.search_top.specs.declared.ended.Ended.TheVariants.{Plain}
 use Rattle.search_top.specs.Budget.{budget_of}
-use Rattle.search_top.specs.Ended.{text_of}
 use Rattle.search_top.specs.Report.{states_line}
 
 -- the calls that the text prints are a plan of the task
