@@ -129,7 +129,7 @@ impl Watches {
         self.known[length as usize] = known;
         self.propagator.assign(Assigned {
             literal: lit,
-            reason: Some(0),
+            reason: None,
         });
         self.first = self.propagator.next();
     }
