@@ -58,7 +58,7 @@ fn push_spelled(p: &Pddl, name: &[u8], objects: &[u32], text: &mut Vec<u8>) -> R
 }
 
 /// Appends an atom.
-pub(crate) fn push_atom(p: &Pddl, atom: &Atom, text: &mut Vec<u8>) -> Result<(), Memory>
+pub fn push_atom(p: &Pddl, atom: &Atom, text: &mut Vec<u8>) -> Result<(), Memory>
     ensures { OnOk result (text.new.items ≡ text.old.items ++ atom_text p.now atom.now) }
 {
     push_spelled(

@@ -18,7 +18,7 @@ use Rattle.grounding_defs.specs.Grounded.{Grounded}
 use Rattle.grounding_defs.specs.Laws.{AreNumbers}
 use Rattle.plan_report.specs.Listings.{call_at}
 use Rattle.plan_report.specs.Report.{action_text}
-use Rattle.search_top.specs.Laws.{WalkLaws}
+use Rattle.search_top.specs.Laws.{TopLaws}
 use Rattle.search_top.specs.Report.{states_line, plan_line, plan_words}
 use Rattle.search_top.specs.declared.request.How.{How}
 use Rattle.search_top.specs.declared.request.How.TheVariants.{Greedy, Least}
@@ -40,7 +40,7 @@ lines_pushed (Ok x) first line ns old middle new begun h =
 number_line : (n : ℕ) → n < 2 ^ 64 → is_line (decimal n) ≡ true
 number_line n small = word_line (decimal n) (decimal_word n small)
 
-module _ (laws : WalkLaws) (p : Parts) (g : Grounded) (well : IsWellFormed p) where
+module _ (laws : TopLaws) (p : Parts) (g : Grounded) (well : IsWellFormed p) where
   calls_spelled : (actions : List ℕ) (calls : List Call) → AreNumbers g calls actions → list_all (is_call p) calls ≡ true → SpellsAnywhere p (joined (map (action_text p g) actions)) calls
   calls_spelled [] [] numbers are = laws.nothing p
   calls_spelled [] (c ∷ cs) numbers are = absurd numbers

@@ -6,6 +6,8 @@ pub mod Ended
 pub mod Headline
 pub mod Laws
 pub mod Limits
+pub mod Literals
+pub mod Never
 pub mod Report
 pub mod Requested
 pub mod Seen
