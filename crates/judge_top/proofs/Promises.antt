@@ -14,13 +14,13 @@ use Rattle.step_plans.specs.Known.{form_of, formula_at}
 use Rattle.lrat_judge.specs.Verdicts.{verdict_ended, verdict_of, has_empty}
 use Rattle.lrat_judge.specs.declared.verdict.Verdict.{Verdict}
 use Rattle.lrat_judge.specs.declared.verdict.Verdict.TheVariants as verdicts
-use Rattle.requests.specs.Seen.{grounds}
 use Rattle.requests.specs.declared.request.Stepping.{Stepping}
 use Rattle.plan_endings.specs.Ending as plain
 use Rattle.plan_endings.specs.declared.ending.File.{File}
+use Rattle.plan_endings.specs.declared.ending.File.TheVariants.{Proof}
 use Rattle.plan_endings.specs.declared.ending.Ending.{Ending}
 use Rattle.plan_endings.specs.declared.ending.Ending.TheVariants.{Listing}
-use Rattle.input_files.specs.Limits.{file_at}
+use Rattle.input_files.specs.Limits.{file_in}
 use Rattle.input_files.specs.Files.{StopsFrom, RoseAmong}
 use Rattle.plan_tasks.specs.Stepping.{places_by}
 use Rattle.plan_tasks.specs.Tasks.{AreTask, IsReady, StopsTask, refused, past, RefusesTask, domain_tree, problem_tree, no_task, refusal_of}
@@ -143,7 +143,7 @@ IsLow names failed fails faults rises end = ((status_of end ≡ 5) × (RoseAmong
 module _ (heard hears : List Heard) (failed fails : List (List ℕ)) (tape : TapeRun) where
   stop_low : (d p : List ℕ) (end : Ended) → StopsAt heard hears failed fails tape d p end → IsLow (d ∷ p ∷ []) failed fails tape.faults tape.rises end
   unfolding IsLow
-  stop_low d p end h = elim (files_between failed fails (file_at (grounds d p)) 0 (d ∷ p ∷ []) h.1 h.0 h.3) [
+  stop_low d p end h = elim (files_between failed fails (file_in Proof) 0 (d ∷ p ∷ []) h.1 h.0 h.3) [
     | inl k ↦ inl (ap status_of h.4 ∙ k.0, inl k.1)
     | inr four ↦ inr (let is = ap status_of h.4 in omega (arith, is, four))
   ]
@@ -234,7 +234,7 @@ module _ (heard hears : List Heard) (failed fails : List (List ℕ)) (tape : Tap
       subst (λ (r : Seen). ComesFor heard hears failed fails tape r end) same h
 
   low_only : {A : Type 0} (n : ℕ) (end : Ended) → n ≤ 3 → status_of end ≡ n → (d p : List ℕ) → StopsAt heard hears failed fails tape d p end → A
-  low_only n end low at d p h = elim (files_between failed fails (file_at (grounds d p)) 0 (d ∷ p ∷ []) h.1 h.0 h.3) [
+  low_only n end low at d p h = elim (files_between failed fails (file_in Proof) 0 (d ∷ p ∷ []) h.1 h.0 h.3) [
     | inl k ↦ absurd (let five = ap status_of h.4 ∙ k.0 in omega (arith, five, at, low))
     | inr four ↦ absurd (let is = ap status_of h.4 ∙ four in omega (arith, is, at, low))
   ]
