@@ -14,6 +14,6 @@ returns-in-Ok-eq0-clause-given g c =
 -- the count is not 0, since that is a case of its own
 pub returns-in-Some-clause-given : goal.returns-in-Some-clause-given
 returns-in-Some-clause-given g c =
-    let piece = take c.in-Ok.field-0 c.take.new.into in
+    let piece = take c.in-Ok.count c.take.new.into in
     let told = rw c.in-Some.is at (c.in_ok-refused-in-Ok.ensures.refused c.args.variables (g.T.Tape.given c.reading.tape).bytes c.reading.invariant.read) in
     read_early (g.T.Tape.given c.reading.tape) (g.T.Tape.given c.take.new.self) c.reading.invariant.goes piece c.in-Ok.ensures.given (search rules) c.args.variables (NoText c.in-Some.at) told
