@@ -1,6 +1,6 @@
-use Rattle.std.proofs.Common.{◌≡◌, ◌∙◌, ◌++◌, [], ℕ, List, take, sym, ap, subst, rules}
-use Rattle.pl_io.specs.Tape.{Given, given_more}
-use Rattle.sat_text.specs.Values.{NoText, model_of}
+use Rattle.std.proofs.Common.{◌≡◌, ◌∙◌, ℕ, take, ap, rules}
+use Rattle.pl_io.specs.Tape.{given_more}
+use Rattle.sat_text.specs.Values.{NoText}
 use Rattle.judge_top.specs.Answers.{tape_run}
 use Rattle.judge_top.proofs.Given.{read_early}
 use Rattle.judge_top.proofs.model.read_given.Goals as goal

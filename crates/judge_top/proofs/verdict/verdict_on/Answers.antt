@@ -1,10 +1,8 @@
-use Rattle.std.proofs.Common.{◌≡◌, ◌<◌, ◌∙◌, ◌++◌, ℕ, List, Ok, length, take, sym, ap, arith, subst}
+use Rattle.std.proofs.Common.{◌≡◌, ◌∙◌, ◌++◌, ℕ, List, Ok, take, ap, arith, subst}
 use Rattle.clause_base.specs.Formula.{Cnf, IsUnsatisfiable}
-use Rattle.pl_io.specs.Tape.{Given}
 use Rattle.lrat_judge.specs.Verdicts.{verdict_of}
 use Rattle.lrat_judge.specs.declared.verdict.Verdict.TheVariants.{Refuted}
-use Rattle.judge_top.specs.Answers.{IsVerdictOn}
-use Rattle.judge_top.proofs.Given.{some_taken, goes_on, verdict_early, verdict_at_end}
+use Rattle.judge_top.proofs.Given.{some_taken, verdict_early, verdict_at_end}
 use Rattle.judge_top.proofs.verdict.verdict_on.Goals as goal
 
 pub returns-in_default-clause-refuted : goal.returns-in_default-clause-refuted
