@@ -1,19 +1,18 @@
 -- Two literals of a goal that the known clauses exclude do it by themselves.
-use Rattle.std.proofs.Common.{◌≡◌, ◌++◌, ◌+◌, ◌*◌, ◌<◌, ℕ, List, [], ◌∷◌, length, take, Bool, true, false, ◌||◌, refl, ap, sym, ◌∙◌, subst, ◌⊎◌, inl, inr}
-use Rattle.std.specs.Prelude.{slice_index}
+use Rattle.std.proofs.Common.{◌≡◌, ◌++◌, ◌+◌, ◌*◌, ℕ, List, [], ◌∷◌, Bool, true, ◌||◌, refl, sym, subst, ◌⊎◌, inl, inr}
 use Rattle.std.specs.List.{AllByRecursion}
 use Rattle.gt_core.specs.Literal.{opposite, is_in}
 use Rattle.gt_core.specs.Interference.{has_clause}
 use Rattle.gt_core.specs.Task.{Task}
-use Rattle.gt_core.proofs.published.Basics.{Among, or_split, or_left, or_right, apart}
+use Rattle.gt_core.proofs.published.Basics.{Among, or_split, or_left, or_right}
 use Rattle.gt_core.proofs.published.Literals.{in_among, among_in, in_split, add_opposite, delete_opposite}
 use Rattle.implied_literals.specs.Known.{IsFull}
 use Rattle.implied_literals.specs.Rows.{HasNoPair}
-use Rattle.never_defs.specs.Propagation.{IsPropagated, IsRefuted}
+use Rattle.never_defs.specs.Propagation.{IsRefuted}
 use Rattle.never_defs.specs.Forward.{GoalPassesForward}
 use Rattle.never_check.specs.Follow.{HasAll, Obeys}
 use Rattle.never_check.specs.Rules.{ObeysRules}
-use Rattle.never_check.specs.Verdicts.{IsLeast, AreRefuted, HasLeast}
+use Rattle.never_check.specs.Verdicts.{AreRefuted, HasLeast}
 use Rattle.never_check.specs.declared.rules.Rules.{Rules}
 use Rattle.never_check.proofs.Grown.{pair_from}
 use Rattle.never_check.proofs.Least.{least_propagated, plain_refuted, refuted_more}

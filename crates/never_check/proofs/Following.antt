@@ -1,5 +1,5 @@
 -- What follows from one literal more.
-use Rattle.std.proofs.Common.{arith, ◌≡◌, ◌==◌, ◌<◌, ◌≤◌, ◌+◌, ℕ, zero, suc, List, [], ◌∷◌, length, take, drop, true, false, refl, ap, sym, ◌∙◌, subst, ◌⊎◌, inl, inr, Some, None, slice_get}
+use Rattle.std.proofs.Common.{arith, ◌≡◌, ◌==◌, ◌<◌, ◌+◌, ℕ, zero, suc, List, [], ◌∷◌, length, take, drop, true, false, refl, ap, sym, ◌∙◌, subst, ◌⊎◌, inl, inr, Some, None, slice_get}
 use Rattle.std.specs.Prelude.{slice_index, slice_index_or}
 use Rattle.std.specs.List.{AllByRecursion}
 use Rattle.std.proofs.lemmas.Bool.{cases_lt}

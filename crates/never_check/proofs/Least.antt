@@ -1,10 +1,9 @@
 -- The least set of literals that is propagated from some, and what is refuted.
-use Rattle.std.proofs.Common.{◌≡◌, ℕ, List, [], ◌++◌, length, take, Bool, true, refl, ap, sym, ◌∙◌, subst}
+use Rattle.std.proofs.Common.{◌≡◌, ℕ, List, [], ◌++◌, length, take, Bool, refl, ap, sym, ◌∙◌, subst}
 use Rattle.std.specs.Prelude.{MatchBool}
 use Rattle.std.specs.List.{AllByRecursion}
 use Rattle.gt_core.specs.Literal.{is_in}
 use Rattle.gt_core.proofs.published.Basics.{apart}
-use Rattle.implied_literals.specs.Rows.{HasNoPair}
 use Rattle.never_defs.specs.Propagation.{IsPropagated, IsRefuted}
 use Rattle.never_check.specs.Trail.{Reached}
 use Rattle.never_check.specs.Follow.{HasAll, Obeys, IsGrown, IsContradiction}

@@ -1,5 +1,5 @@
 -- From what was found on the trails of both sides of a step to the definition of the backward check.
-use Rattle.std.proofs.Common.{◌≡◌, ◌==◌, ◌<◌, ◌*◌, ◌++◌, ℕ, List, [], length, map, Bool, true, false, refl, ap, sym, ◌∙◌, subst}
+use Rattle.std.proofs.Common.{◌≡◌, ◌==◌, ◌<◌, ◌*◌, ◌++◌, ℕ, List, [], length, map, Bool, true, false, refl, sym, subst}
 use Rattle.std.specs.Prelude.{slice_index_or, MatchBool, MatchOption, Option, Some, None}
 use Rattle.std.specs.List.{AllByRecursion}
 use Rattle.gt_core.specs.Literal.{opposite, is_in}
@@ -12,7 +12,7 @@ use Rattle.implied_literals.specs.Rows.{HasNoPair}
 use Rattle.never_defs.specs.Sets.{is_true_in, AreTrue}
 use Rattle.never_defs.specs.Propagation.{IsPropagated, IsRefuted}
 use Rattle.never_defs.specs.After.{holds_surely}
-use Rattle.never_defs.specs.Backward.{PassesBackward, GoalPassesBackward, IsBackwardCertificate}
+use Rattle.never_defs.specs.Backward.{GoalPassesBackward, IsBackwardCertificate}
 use Rattle.never_check.specs.Trail.{Reached}
 use Rattle.never_check.specs.Follow.{AreBelow, IsContradiction, AreUses}
 use Rattle.never_check.specs.Rules.{ObeysRules}

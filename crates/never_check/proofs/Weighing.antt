@@ -1,24 +1,19 @@
 -- Sums of weights of literals that pass a test.
-use Rattle.std.proofs.Common.{arith, ◌≡◌, ◌+◌, ◌<◌, ◌≤◌, ◌*◌, ℕ, List, [], length, take, get_or, Bool, true, false, refl, ap, sym, ◌∙◌, subst}
+use Rattle.std.proofs.Common.{arith, ◌≡◌, ◌+◌, ◌<◌, ◌≤◌, ℕ, List, [], length, take, get_or, Bool, true, false, refl}
 use Rattle.std.specs.Prelude.{if◌then◌else◌, sum_by, MatchBool}
 use Rattle.std.proofs.Math.Dec.{leb, ltb}
 use Rattle.std.proofs.lemmas.Bool.{leb-true, leb-false, ltb-true, ltb-false}
-use Rattle.std.proofs.lemmas.List.{take_all}
 use Rattle.std.proofs.lemmas.List.Sums.{sum_by_more, sum_by-le-sum_by, sum_by_more_le_part}
 use Rattle.gt_core.specs.Literal.{is_in}
 use Rattle.gt_core.specs.Task.{Action, Task, initial_state}
 use Rattle.gt_core.proofs.published.Basics.{apart}
-use Rattle.implied_literals.specs.Rows.{HasNoPair}
 use Rattle.never_defs.specs.Sets.{weight_of, weight_in}
-use Rattle.never_defs.specs.Propagation.{IsPropagated}
 use Rattle.never_defs.specs.After.{comes_perhaps, goes_surely}
-use Rattle.never_defs.specs.Weights.{PassesWeights, GoalPassesWeights, AreWeightsCertified}
+use Rattle.never_defs.specs.Weights.{PassesWeights, GoalPassesWeights}
 use Rattle.never_check.specs.Trail.{Reached}
-use Rattle.never_check.specs.Follow.{IsContradiction}
-use Rattle.never_check.specs.Rules.{ObeysRules, ObeysWith}
-use Rattle.never_check.specs.Verdicts.{IsBase, IsLeast, AreRefuted}
+use Rattle.never_check.specs.Verdicts.{IsLeast, AreRefuted}
 use Rattle.never_check.specs.declared.rules.Rules.{Rules}
-use Rattle.never_check.proofs.Least.{plain_obeys, plain_refuted, plain_propagated, plain_least}
+use Rattle.never_check.proofs.Least.{plain_refuted, plain_propagated, plain_least}
 use Rattle.never_check.proofs.Surely.{comes_less, goes_more}
 
 -- ---- sums

@@ -1,5 +1,4 @@
-use Rattle.std.proofs.Common.{◌∙◌, ◌≡◌, ◌<◌, ◌*◌, ℕ, [], ap, sym, subst}
-use Rattle.std.specs.List.{AllByRecursion}
+use Rattle.std.proofs.Common.{◌∙◌, ap, sym, subst}
 use Rattle.never_check.specs.Trail.{Reached}
 use Rattle.never_check.specs.Verdicts.{IsBase}
 use Rattle.never_check.specs.declared.rules.Rules.{Rules}
