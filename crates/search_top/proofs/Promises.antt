@@ -378,8 +378,8 @@ module _ (heard hears : List Heard) (failed fails : List (List ℕ)) (words : Li
           of_never 0 (omega arith) (TellsExclusion text)
           (λ task g ready_is end at put a. subst (λ (t : List ℕ). TellsExclusion t task) (sym (printed_is before after text (text_of end) printed put)) (never_excluded laws task g ready_is end a)) zero
 
-      pub open : status ≡ 2 → OfFiles heard hears domain problem IsOpen
-      open two = of_never 2 (omega arith) IsOpen (λ task g ready_is end at put a. never_open laws task g ready_is end a at) two
+      pub left_open : status ≡ 2 → OfFiles heard hears domain problem IsOpen
+      left_open two = of_never 2 (omega arith) IsOpen (λ task g ready_is end at put a. never_open laws task g ready_is end a at) two
 
     module _ (certificate : List ℕ) (is : requested words ≡ Some (certifies domain problem certificate)) where
       pub certified : status ≡ 0 → OfThree heard hears domain problem certificate (λ bytes. HasNoPlan)

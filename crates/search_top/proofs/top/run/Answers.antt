@@ -3,7 +3,7 @@ use Rattle.plan_endings.specs.Ends.{end_in}
 use Rattle.plan_endings.proofs.published.Stopped.{end_answers}
 use Rattle.search_top.specs.declared.request.How.TheVariants as how
 use Rattle.search_top.specs.declared.ended.Ended.TheVariants.{Plain, Usage}
-use Rattle.search_top.proofs.Promises.{runs, least, no_plan, spent, never, excluded, open, certified, accepted, rejected, read_fault, usage, not_taken, no_command, status_apart}
+use Rattle.search_top.proofs.Promises.{runs, least, no_plan, spent, never, excluded, left_open, certified, accepted, rejected, read_fault, usage, not_taken, no_command, status_apart}
 use Rattle.search_top.proofs.top.run.Goals as goal
 
 pub finish-requires : goal.finish-requires
@@ -37,7 +37,7 @@ pub returns-clause-excluded : goal.returns-clause-excluded
 returns-clause-excluded g c text domain problem zero printed is = excluded _ _ _ _ _ _ _ _ c.laws.ensures (returns-clause-due g c) domain problem is text zero printed
 
 pub returns-clause-open : goal.returns-clause-open
-returns-clause-open g c domain problem two is = open _ _ _ _ _ _ _ _ c.laws.ensures (returns-clause-due g c) domain problem is two
+returns-clause-open g c domain problem two is = left_open _ _ _ _ _ _ _ _ c.laws.ensures (returns-clause-due g c) domain problem is two
 
 pub returns-clause-certified : goal.returns-clause-certified
 returns-clause-certified g c domain problem certificate zero is = certified _ _ _ _ _ _ _ _ c.laws.ensures (returns-clause-due g c) domain problem certificate is zero
