@@ -1,5 +1,6 @@
 mod Lines
 mod Runs
+mod Never
 mod Promises
 mod Deciding
 mod Fit

@@ -82,6 +82,8 @@ fn judge_forward<H: Threads + Sync>(
     ensures said { IfOk result (IsSaidOf task.now (Ok (Forward clauses.now))) }
     ensures actions { IfOk result (HasActions (length task.now.actions)) }
 {
+    // For the proof: the task is lawful.
+    let _facts = task.facts();
     let known = find(rt, alloc, task)?;
     let verdict = check_forward(alloc, task, &known, clauses)?;
     Ok(said_forward(clauses.len() as u32, verdict))
@@ -98,6 +100,8 @@ fn judge_backward<H: Threads + Sync>(
     ensures said { IfOk result (IsSaidOf task.now (Ok (Backward clauses.now))) }
     ensures actions { IfOk result (HasActions (length task.now.actions)) }
 {
+    // For the proof: the task is lawful.
+    let _facts = task.facts();
     let known = find(rt, alloc, task)?;
     let verdict = check_backward(alloc, task, &known, clauses)?;
     Ok(said_backward(clauses.len() as u32, verdict))
@@ -114,6 +118,8 @@ fn judge_weights<H: Threads + Sync>(
     ensures said { IfOk result (IsSaidOf task.now (Ok (Weights weights.now))) }
     ensures actions { IfOk result (HasActions (length task.now.actions)) }
 {
+    // For the proof: the task is lawful.
+    let _facts = task.facts();
     let known = find(rt, alloc, task)?;
     let verdict = check_weights(alloc, task, &known, weights)?;
     Ok(said_weights(verdict))

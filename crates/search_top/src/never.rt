@@ -22,6 +22,8 @@ fn excluded<H: Threads + Sync>(rt: &H, alloc: Global, task: &Task) -> Result<Exc
     ensures excluded { IfOk result (IsExcluded task.now) }
     ensures literals { IfOk result (HasLiterals task.now.facts) }
 {
+    // For the proof: the task is lawful.
+    let _facts = task.facts();
     let known = find(rt, alloc, task)?;
     let by = excluded_goal(alloc, task, &known)?;
     Ok(by)
