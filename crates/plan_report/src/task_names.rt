@@ -6,7 +6,7 @@ ghost use Rattle.pd_model.specs.Text.{predicate_name, object_name, schema_name, 
 use pd_model::{Atom, Call, Memory, Pddl};
 
 /// The name of an object.
-fn object_name(p: &Pddl, object: u32) -> &[u8]
+pub fn object_name(p: &Pddl, object: u32) -> &[u8]
     ensures { result.now ≡ object_name p.now object }
 {
     match p.objects().as_slice().get(object as usize) {

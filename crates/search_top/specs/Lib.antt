@@ -4,6 +4,7 @@ pub mod Causes
 pub mod Command
 pub mod Ended
 pub mod Headline
+pub mod Hopeless
 pub mod Laws
 pub mod Limits
 pub mod Literals

@@ -20,6 +20,7 @@ use Rattle.never_check.specs.declared.weights.WeightsVerdict.{WeightsVerdict}
 use Rattle.never_check.specs.declared.weights.WeightsVerdict.TheVariants as weights
 use Rattle.never_text.specs.Certificate.{Certificate, Nothing, Forward, Backward, Weights, certificate_of}
 use Rattle.never_text.specs.declared.fault.Fault.{Fault}
+use Rattle.search_top.specs.Hopeless.{hopeless_text}
 use Rattle.search_top.specs.Literals.{literal_text}
 use Rattle.search_top.specs.declared.ended.Finding.{Finding}
 use Rattle.search_top.specs.declared.ended.Finding.TheVariants.{NoPlan, Rejected, Open, Refused}
@@ -33,7 +34,7 @@ use Rattle.search_top.specs.declared.judged.Judgement.TheVariants as said
 -- the line that tells that a goal is open, or by what it is excluded
 abbrev pub exclusion_line : Parts → Grounded → Exclusion → List ℕ
 exclusion_line p g by.Open = codes "; open"
-exclusion_line p g by.Hopeless = codes "; no plan of any length: the goal is never true"
+exclusion_line p g by.Hopeless = codes "; no plan of any length: goal " ++ (hopeless_text p g p.goal ++ codes " is never true")
 exclusion_line p g (by.One l) = codes "; no plan of any length: goal " ++ (literal_text p g l ++ codes " is never true")
 exclusion_line p g (by.Two l m) = codes "; no plan of any length: the goal is excluded by " ++ (literal_text p g l ++ (codes " and " ++ literal_text p g m))
 

@@ -11,6 +11,7 @@ mod budget;
 mod command;
 mod decide;
 mod ended;
+mod hopeless;
 mod judged;
 mod laws;
 mod limits;

@@ -6,6 +6,7 @@ ghost use Rattle.search_top.specs.own.Below.{HasActions};
 ghost use Rattle.search_top.specs.own.Exclusions.{HasLiterals};
 
 use crate::ended::{Ended, Finding};
+use crate::hopeless::push_hopeless;
 use crate::judged::Judgement;
 use grounder::Grounded;
 use never_check::excluded::Exclusion;
@@ -31,14 +32,23 @@ fn push_literal(p: &Pddl, g: &Grounded, lit: u32, text: &mut Vec<u8>) -> Result<
 }
 
 // Appends the line that tells that a goal is open, or by what it is excluded, without its end.
-fn push_exclusion(p: &Pddl, g: &Grounded, by: &Exclusion, text: &mut Vec<u8>) -> Result<(), Memory>
-    requires { HasLiterals (length g.now.facts) by.now }
+fn push_exclusion(
+    alloc: Global,
+    p: &Pddl,
+    g: &Grounded,
+    by: &Exclusion,
+    text: &mut Vec<u8>,
+) -> Result<(), Memory>
+    requires literals { HasLiterals (length g.now.facts) by.now }
+    requires facts { length g.now.facts ≡ g.now.task.facts }
     ensures { OnOk result (text.new.items ≡ text.old.items ++ exclusion_line p.now g.now by.now) }
 {
     match by {
         Exclusion::Open => text.extend_from_slice(b"; open")?,
         Exclusion::Hopeless => {
-            text.extend_from_slice(b"; no plan of any length: the goal is never true")?
+            text.extend_from_slice(b"; no plan of any length: goal ")?;
+            push_hopeless(alloc, p, g, text)?;
+            text.extend_from_slice(b" is never true")?;
         }
         Exclusion::One(lit) => {
             text.extend_from_slice(b"; no plan of any length: goal ")?;
@@ -72,11 +82,12 @@ pub(crate) fn ended_excluded(
     g: &Grounded,
     by: Exclusion,
 ) -> Result<Ended, Memory>
-    requires { HasLiterals (length g.now.facts) by }
+    requires literals { HasLiterals (length g.now.facts) by }
+    requires facts { length g.now.facts ≡ g.now.task.facts }
     ensures { IfOk result (λ end. end ≡ ended_excluded p.now g.now by) }
 {
     let mut text = Vec::new(alloc);
-    push_exclusion(p, g, &by, &mut text)?;
+    push_exclusion(alloc, p, g, &by, &mut text)?;
     text.extend_from_slice(b"\n")?;
     Ok(Ended::Shown {
         finding: finding_by(&by),
