@@ -1,6 +1,6 @@
 mod Lines
 mod Runs
-mod Never
+mod Knowing
 mod Promises
 mod Deciding
 mod Fit

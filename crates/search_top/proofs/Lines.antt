@@ -28,6 +28,11 @@ pub one_by_one : (line : ℕ → List ℕ) (ns : List ℕ) → flat_map (λ n. j
 one_by_one line [] = refl
 one_by_one line (n ∷ ns) = append_assoc (line n) (10 ∷ []) (flat_map (λ k. joined (line k ∷ [])) ns) ∙ ap (λ (rest : List ℕ). line n ++ 10 ∷ rest) (one_by_one line ns)
 
+-- three texts are appended, one after another
+pub pushed_three : (old a b c one two new : List ℕ) → one ≡ old ++ a → two ≡ one ++ b → new ≡ two ++ c → new ≡ old ++ (a ++ (b ++ c))
+pushed_three old a b c one two new first second third =
+    third ∙ (ap (λ (t : List ℕ). t ++ c) (second ∙ ap (λ (t : List ℕ). t ++ b) first) ∙ (append_assoc (old ++ a) b c ∙ append_assoc old a (b ++ c)))
+
 -- a line and then others are appended
 pub lines_pushed : {X E : Type 0} (r : Result X E) (first : List ℕ) (line : ℕ → List ℕ) (ns old middle new : List ℕ) → middle ≡ old ++ joined (first ∷ [])
     → OnOk r (new ≡ middle ++ flat_map (λ n. joined (line n ∷ [])) ns) → OnOk r (new ≡ old ++ joined (first ∷ map line ns))

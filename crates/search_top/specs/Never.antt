@@ -27,7 +27,7 @@ use Rattle.search_top.specs.declared.ended.Finding.TheVariants.{NoPlan, Rejected
 use Rattle.search_top.specs.declared.ended.Ended.{Ended}
 use Rattle.search_top.specs.declared.ended.Ended.TheVariants.{Shown}
 use Rattle.search_top.specs.declared.judged.Judgement.{Judgement}
-use Rattle.search_top.specs.declared.judged.Judgement.TheVariants as said
+use Rattle.search_top.specs.declared.judged.Judgement.TheVariants as says
 
 -- ---- without a certificate
 
@@ -59,23 +59,23 @@ pub record AnswersNever (task : Parts) (g : Grounded) (end : Ended) : Type 0 whe
 
 -- what the verdicts on clauses and on weights say
 abbrev pub said_forward : ℕ → ForwardVerdict → Judgement
-said_forward count forward.Accepted = said.Clauses count
-said_forward count (forward.Initial k) = said.Initial (Some k)
-said_forward count forward.Goal = said.Goal None
-said_forward count (forward.Pair k a) = said.Pair k a
+said_forward count forward.Accepted = says.Clauses count
+said_forward count (forward.Initial k) = says.Initial (Some k)
+said_forward count forward.Goal = says.Goal None
+said_forward count (forward.Pair k a) = says.Pair k a
 
 -- the same of clauses that are read backward
 abbrev pub said_backward : ℕ → BackwardVerdict → Judgement
-said_backward count backward.Accepted = said.Clauses count
-said_backward count backward.Initial = said.Initial None
-said_backward count (backward.Goal k) = said.Goal (Some k)
-said_backward count (backward.Pair k a) = said.Pair k a
+said_backward count backward.Accepted = says.Clauses count
+said_backward count backward.Initial = says.Initial None
+said_backward count (backward.Goal k) = says.Goal (Some k)
+said_backward count (backward.Pair k a) = says.Pair k a
 
 -- the same of weights
 abbrev pub said_weights : WeightsVerdict → Judgement
-said_weights weights.Accepted = said.Weights
-said_weights weights.Goal = said.Goal None
-said_weights (weights.Action a) = said.Action a
+said_weights weights.Accepted = says.Weights
+said_weights weights.Goal = says.Goal None
+said_weights (weights.Action a) = says.Action a
 
 -- what is said of a certificate, under clauses that are known of the states, by the check of its kind
 abbrev pub IsJudged : Task → List (ℕ × ℕ) → Certificate → Judgement → Type 0
@@ -86,7 +86,7 @@ IsJudged task known (Weights weights) said = (verdict : WeightsVerdict) × IsWei
 
 -- what is said of the text of a certificate: where it is none, that, and where the line at fault begins
 abbrev pub IsSaidOf : Task → Result Certificate (ℕ × Fault) → Judgement → Type 0
-IsSaidOf task (Err fault) said = said ≡ said.Faulty fault.0
+IsSaidOf task (Err fault) said = said ≡ says.Faulty fault.0
 IsSaidOf task (Ok certificate) said = (known : List (ℕ × ℕ)) × AreInvariants task known × IsJudged task known certificate said
 
 -- the number of a clause, where one is told, counted from 1
@@ -96,19 +96,19 @@ numbered front (Some k) = front ++ (codes " " ++ decimal (k + 1))
 
 -- the line that tells it
 abbrev pub judgement_line : Parts → Grounded → Judgement → List ℕ
-judgement_line p g (said.Faulty at) = codes "; refused syntax proof " ++ decimal at
-judgement_line p g (said.Clauses count) = codes "; no plan of any length, clauses " ++ decimal count
-judgement_line p g said.Weights = codes "; no plan of any length, weights"
-judgement_line p g (said.Initial clause) = numbered (codes "; rejected initial") clause
-judgement_line p g (said.Goal clause) = numbered (codes "; rejected goal") clause
-judgement_line p g (said.Pair clause action) = codes "; rejected clause " ++ (decimal (clause + 1) ++ (codes " action " ++ action_text p g action))
-judgement_line p g (said.Action action) = codes "; rejected action " ++ action_text p g action
+judgement_line p g (says.Faulty at) = codes "; refused syntax proof " ++ decimal at
+judgement_line p g (says.Clauses count) = codes "; no plan of any length, clauses " ++ decimal count
+judgement_line p g says.Weights = codes "; no plan of any length, weights"
+judgement_line p g (says.Initial clause) = numbered (codes "; rejected initial") clause
+judgement_line p g (says.Goal clause) = numbered (codes "; rejected goal") clause
+judgement_line p g (says.Pair clause action) = codes "; rejected clause " ++ (decimal (clause + 1) ++ (codes " action " ++ action_text p g action))
+judgement_line p g (says.Action action) = codes "; rejected action " ++ action_text p g action
 
 -- what comes of it
 abbrev pub finding_of : Judgement → Finding
-finding_of (said.Faulty at) = Refused
-finding_of (said.Clauses count) = NoPlan
-finding_of said.Weights = NoPlan
+finding_of (says.Faulty at) = Refused
+finding_of (says.Clauses count) = NoPlan
+finding_of says.Weights = NoPlan
 finding_of _ = Rejected
 
 -- how a run ends with it

@@ -1,6 +1,6 @@
 //! The first condition of a goal that no state has which calls lead to, by grounding alone.
 ghost use Rattle.std.specs.Prelude.{◌≡◌, ◌++◌, [], length, OnOk, IfOk};
-ghost use Rattle.pd_model.specs.State.{is_in};
+ghost use Rattle.pd_model.specs.State.{is_in, same_atom};
 ghost use Rattle.grounding_defs.specs.Instance.{literal_of};
 ghost use Rattle.grounding_defs.specs.Simplify.{is_never};
 ghost use Rattle.search_top.specs.Hopeless.{wanted_front, wanted_back, equation_text, condition_text, hopeless_text};
@@ -10,13 +10,20 @@ use pd_model::{Atom, Cond, Memory, Pddl, instance_of, object_of};
 use plan_report::{object_name, push_atom};
 use std::alloc::Global;
 
+// Whether two atoms are the same.
+fn is_same(atom: &Atom, other: &Atom) -> bool
+    ensures { result ≡ same_atom atom.now other.now }
+{
+    *atom == *other
+}
+
 // Whether an atom is a fact.
 fn is_fact(g: &Grounded, atom: &Atom) -> bool
     requires { length g.now.facts ≡ g.now.task.facts }
     ensures { result ≡ is_in atom.now g.now.facts }
 {
     for f in 0..g.task().facts() {
-        if *atom == *g.fact(f) {
+        if is_same(atom, g.fact(f)) {
             return true;
         }
     }
@@ -28,7 +35,7 @@ fn is_initial(p: &Pddl, atom: &Atom) -> bool
     ensures { result ≡ is_in atom.now p.now.init }
 {
     for other in p.init().as_slice() {
-        if *atom == *other {
+        if is_same(atom, other) {
             return true;
         }
     }

@@ -8,11 +8,12 @@ ghost use Rattle.search_top.specs.own.Exclusions.{HasLiterals};
 use crate::ended::{Ended, Finding};
 use crate::hopeless::push_hopeless;
 use crate::judged::Judgement;
+use crate::report::push_call_of;
 use grounder::Grounded;
 use never_check::excluded::Exclusion;
 use pd_model::{Memory, Pddl};
 use pl_io::Bytes;
-use plan_report::{push_atom, push_call};
+use plan_report::push_atom;
 use report_lines::push_number;
 use std::alloc::Global;
 
@@ -137,11 +138,13 @@ fn push_judgement(p: &Pddl, g: &Grounded, said: Judgement, text: &mut Vec<u8>) -
         Judgement::Pair { clause, action } => {
             push_counted(b"; rejected clause ", u64::from(clause) + 1, text)?;
             text.extend_from_slice(b" action ")?;
-            push_call(p, g.call(action), text)
+            push_call_of(p, g, action, text)?;
+            Ok(())
         }
         Judgement::Action(action) => {
             text.extend_from_slice(b"; rejected action ")?;
-            push_call(p, g.call(action), text)
+            push_call_of(p, g, action, text)?;
+            Ok(())
         }
     }
 }

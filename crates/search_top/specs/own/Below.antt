@@ -4,7 +4,7 @@ use Rattle.std.specs.List.{AllByRecursion}
 use Rattle.state_search.specs.declared.answer.End.{End}
 use Rattle.state_search.specs.declared.answer.End.TheVariants as ends
 use Rattle.search_top.specs.declared.judged.Judgement.{Judgement}
-use Rattle.search_top.specs.declared.judged.Judgement.TheVariants as said
+use Rattle.search_top.specs.declared.judged.Judgement.TheVariants as says
 
 -- the actions of a plan are below a number
 abbrev pub IsBelow : ℕ → End → Type 0
@@ -13,6 +13,6 @@ IsBelow n _ = Unit {0}
 
 -- the action that is told of a certificate is below a number
 abbrev pub HasActions : ℕ → Judgement → Type 0
-HasActions n (said.Pair clause action) = action < n
-HasActions n (said.Action action) = action < n
+HasActions n (says.Pair clause action) = action < n
+HasActions n (says.Action action) = action < n
 HasActions n _ = Unit {0}

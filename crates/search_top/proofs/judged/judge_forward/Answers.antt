@@ -1,4 +1,4 @@
-use Rattle.search_top.proofs.Never.{known_of}
+use Rattle.search_top.proofs.Knowing.{known_of}
 use Rattle.search_top.proofs.judged.judge_forward.Goals as goal
 
 pub check_forward-requires-clause-known : goal.check_forward-requires-clause-known

@@ -1,4 +1,4 @@
-use Rattle.search_top.proofs.Never.{known_of}
+use Rattle.search_top.proofs.Knowing.{known_of}
 use Rattle.search_top.proofs.judged.judge_weights.Goals as goal
 
 pub check_weights-requires-clause-known : goal.check_weights-requires-clause-known

@@ -2,7 +2,7 @@ use Rattle.std.proofs.Common.{refl}
 use Rattle.plan_endings.proofs.published.Stopped.{handed}
 use Rattle.search_top.specs.declared.ended.Ended.TheVariants.{Plain}
 use Rattle.search_top.specs.Answers.{ready, not_ready}
-use Rattle.search_top.proofs.Never.{judged_below}
+use Rattle.search_top.proofs.Knowing.{judged_below}
 use Rattle.search_top.proofs.never.answer_certificate.Goals as goal
 
 pub returns-in_err-ready : goal.returns-in_err-ready

@@ -3,7 +3,7 @@ use Rattle.gt_core.specs.Task.{Task}
 use Rattle.plan_endings.proofs.published.Stopped.{handed}
 use Rattle.search_top.specs.declared.ended.Ended.TheVariants.{Plain}
 use Rattle.search_top.specs.Answers.{ready, not_ready}
-use Rattle.search_top.proofs.Never.{literals_have_atoms}
+use Rattle.search_top.proofs.Knowing.{literals_have_atoms}
 use Rattle.search_top.proofs.never.answer_never.Goals as goal
 
 pub returns-in_err-ready : goal.returns-in_err-ready

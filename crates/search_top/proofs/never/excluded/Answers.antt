@@ -1,4 +1,5 @@
-use Rattle.search_top.proofs.Never.{known_of, has_literals}
+use Rattle.std.proofs.Common.{[]}
+use Rattle.search_top.proofs.Knowing.{known_of, has_literals}
 use Rattle.search_top.proofs.never.excluded.Goals as goal
 
 pub excluded_goal-requires-clause-known : goal.excluded_goal-requires-clause-known
@@ -11,4 +12,4 @@ pub returns-clause-excluded : goal.returns-clause-excluded
 returns-clause-excluded g c = (c.in_ok-known.known.clauses, c.in_ok-known.ensures.greatest, c.in_ok-by.ensures)
 
 pub returns-clause-literals : goal.returns-clause-literals
-returns-clause-literals g c = has_literals c.args.task.now c.in_ok-known.known.clauses c.in_ok-by.by c.facts-_facts.ensures.lawful c.in_ok-by.ensures
+returns-clause-literals g c = has_literals c.args.task.now c.in_ok-known.known.clauses c.in_ok-by.by c.facts-facts.ensures.lawful c.in_ok-by.ensures

@@ -1,5 +1,6 @@
--- What is known of a task by its invariants and of the literals of its goal.
-use Rattle.std.proofs.Common.{◌≡◌, ◌<◌, ◌*◌, ◌/◌, ℕ, List, [], length, Bool, true, ap, sym, subst, arith}
+-- What is known of a task by its invariants, and of the literals and actions of which a text tells.
+use Rattle.std.proofs.Common.{◌≡◌, ◌<◌, ◌*◌, ◌/◌, ℕ, ◌+◌, List, [], length, drop, Bool, true, false, Some, refl, ap, sym, subst, arith}
+use Rattle.std.specs.Prelude.{slice_get}
 use Rattle.std.specs.List.{AllByRecursion}
 use Rattle.gt_core.specs.Literal.{is_in}
 use Rattle.gt_core.specs.Clauses.{KnownClauses, IsKnownClauses}
@@ -13,6 +14,9 @@ use Rattle.never_check.specs.declared.excluded.Exclusion.{Exclusion}
 use Rattle.never_check.specs.declared.excluded.Exclusion.TheVariants as by
 use Rattle.gt_core.proofs.published.Literals.{in_among}
 use Rattle.grounding_defs.specs.Grounded.{Grounded, IsGrounded}
+use Rattle.input_files.proofs.published.Taking.{drop_at}
+use Rattle.pd_model.specs.State.{same_atom, is_in as is_listed}
+use Rattle.pd_model.specs.declared.atoms.Atom.{Atom}
 use Rattle.pd_model.specs.declared.parts.Parts.{Parts}
 use Rattle.search_top.specs.own.Below.{HasActions}
 use Rattle.search_top.specs.own.Exclusions.{HasLiterals}
@@ -42,3 +46,11 @@ literals_have_atoms p g is by h = subst (λ (n : ℕ). HasLiterals n by) (ap (λ
 -- the actions that are told of a certificate have calls
 pub judged_below : (p : Parts) (g : Grounded) → IsGrounded p g → (said : Judgement) → HasActions (length g.task.actions) said → HasActions (length g.calls) said
 judged_below p g is said h = subst (λ (n : ℕ). HasActions n said) (actions_are p g is) h
+
+-- ---- an atom in a list that is gone through
+
+pub found_at : (a x : Atom) (xs : List Atom) (k : ℕ) → slice_get xs k ≡ Some x → same_atom a x ≡ true → is_listed a (drop k xs) ≡ true
+found_at a x xs k at same = rw (drop_at xs k x at, same) refl
+
+pub not_at : (a x : Atom) (xs : List Atom) (k : ℕ) → slice_get xs k ≡ Some x → same_atom a x ≡ false → is_listed a (drop (k + 1) xs) ≡ is_listed a (drop k xs)
+not_at a x xs k at other = rw (drop_at xs k x at, other) refl
