@@ -1,7 +1,9 @@
 -- The promises of the top call, each from what it needs alone: mostly that its ending has a cause and that its text is written.
-use Rattle.std.proofs.Common.{◌≡◌, ◌≤◌, ℕ, List, [], ◌∷◌, ◌++◌, Option, Some, None, refl, sym, ap, subst, ◌∙◌, arith, inl, inr}
-use Rattle.std.specs.Prelude.{Contains, ◌⊎◌, Ok}
+use Rattle.std.proofs.Common.{◌≡◌, ◌≤◌, ℕ, List, [], ◌∷◌, ◌++◌, length, Result, Ok, Err, Option, Some, None, refl, sym, ap, subst, ◌∙◌, arith, inl, inr}
+use Rattle.std.specs.Prelude.{Contains, ◌⊎◌}
 use Rattle.pl_io.specs.Outside.{Heard, appended}
+use Rattle.report_lines.specs.Lines.{joined}
+use Rattle.gt_core.specs.Task.{Task}
 use Rattle.pd_model.specs.Plan.{IsPlan}
 use Rattle.pd_model.specs.declared.calls.Call.{Call}
 use Rattle.pd_model.specs.declared.parts.Parts.{Parts}
@@ -11,29 +13,50 @@ use Rattle.grounding_defs.specs.Laws.{AreNumbers}
 use Rattle.state_search.specs.Answer.{AreEntered, IsEnd, IsLeast}
 use Rattle.state_search.specs.declared.answer.End.{End}
 use Rattle.state_search.specs.declared.answer.End.TheVariants as ends
+use Rattle.plan_endings.specs.declared.ending.Ending.{Ending}
 use Rattle.plan_endings.specs.declared.ending.File.TheVariants.{Proof}
 use Rattle.plan_endings.proofs.published.Statuses.{six_seven, six_seven_eight}
 use Rattle.input_files.specs.Limits.{file_in}
-use Rattle.input_files.specs.Files.{RoseAmong}
+use Rattle.input_files.specs.Files.{AreTaken, RoseAmong}
 use Rattle.input_files.proofs.published.Hearing.{two_taken, three_taken}
 use Rattle.plan_tasks.specs.Tasks.{AreTask, IsReady}
 use Rattle.plan_tasks.specs.Claims.{Printed, OfFiles}
 use Rattle.plan_tasks.proofs.published.Printing.{printed_is}
 use Rattle.plan_tasks.proofs.published.Statuses.{task_between, files_between}
 use Rattle.plan_tasks.proofs.published.TellingPlans.{calls_fit}
+use Rattle.two_invariants.specs.Closed.{AreInvariants}
+use Rattle.never_defs.specs.Forward.{GoalPassesForward}
+use Rattle.never_check.specs.Exclusions.{IsExclusion}
+use Rattle.never_check.specs.Verdicts.{IsForwardVerdict}
+use Rattle.never_check.specs.BackwardVerdicts.{IsBackwardVerdict}
+use Rattle.never_check.specs.WeightsVerdicts.{IsWeightsVerdict}
+use Rattle.never_check.specs.declared.excluded.Exclusion.{Exclusion}
+use Rattle.never_check.specs.declared.excluded.Exclusion.TheVariants as exclusions
+use Rattle.never_check.specs.declared.forward.ForwardVerdict.{ForwardVerdict}
+use Rattle.never_check.specs.declared.forward.ForwardVerdict.TheVariants as forwards
+use Rattle.never_check.specs.declared.backward.BackwardVerdict.{BackwardVerdict}
+use Rattle.never_check.specs.declared.backward.BackwardVerdict.TheVariants as backwards
+use Rattle.never_check.specs.declared.weights.WeightsVerdict.{WeightsVerdict}
+use Rattle.never_check.specs.declared.weights.WeightsVerdict.TheVariants as weighed
+use Rattle.never_text.specs.Certificate.{Certificate, Nothing, Forward, Backward, Weights, certificate_of}
+use Rattle.never_text.specs.declared.fault.Fault.{Fault}
 use Rattle.search_top.specs.declared.request.How.{How}
 use Rattle.search_top.specs.declared.request.How.TheVariants as hows
+use Rattle.search_top.specs.declared.judged.Judgement.{Judgement}
+use Rattle.search_top.specs.declared.ended.Finding.{Finding}
+use Rattle.search_top.specs.declared.ended.Finding.TheVariants as findings
 use Rattle.search_top.specs.declared.ended.Ended.{Ended}
-use Rattle.search_top.specs.declared.ended.Ended.TheVariants.{Walked, Usage}
+use Rattle.search_top.specs.declared.ended.Ended.TheVariants.{Plain, Walked, Usage}
 use Rattle.search_top.specs.Seen.{Seen, searches, nevers, certifies, names_of}
 use Rattle.search_top.specs.Requested.{requested}
 use Rattle.search_top.specs.Budget.{budget_of}
 use Rattle.search_top.specs.Report.{outcome_of, report_of, IsSmallAnswer}
+use Rattle.search_top.specs.Never.{AnswersNever, AnswersCertificate, IsSaidOf, IsJudged, said_forward, said_backward, said_weights, finding_by, finding_of, exclusion_line, judgement_line}
 use Rattle.search_top.specs.Ended.{status_of, status_of_walk, status_of_finding, text_of}
 use Rattle.search_top.specs.Answers.{Answers, AnswersSearch, IsLeastBy, OnceReady, not_ready, ready}
 use Rattle.search_top.specs.Causes.{Comes, no_request, asked, ComesFor, stopped, decided, HasFault, names_in}
 use Rattle.search_top.specs.Laws.{TopLaws}
-use Rattle.search_top.specs.Headline.{PlanRuns, PlanIsLeast, HasNoPlan, IsSpent}
+use Rattle.search_top.specs.Headline.{PlanRuns, PlanIsLeast, HasNoPlan, OfGround, IsSpent, TellsExclusion, IsOpen, OfThree, IsJudgedAs}
 use Rattle.search_top.proofs.Lines.{report_read}
 use Rattle.search_top.proofs.Runs.{numbers_long, run_is_plan}
 

@@ -5,4 +5,4 @@ pub check_weights-requires-clause-known : goal.check_weights-requires-clause-kno
 check_weights-requires-clause-known g c = known_of c.args.task.now c.in_ok-known.known c.in_ok-known.ensures.facts c.in_ok-known.ensures.greatest
 
 pub returns-clause-said : goal.returns-clause-said
-returns-clause-said g c = (c.in_ok-known.known.clauses, c.in_ok-known.ensures.greatest, c.in_ok-verdict.verdict, c.in_ok-verdict.ensures, c.said_weights.ensures)
+returns-clause-said g c = (c.in_ok-known.known.clauses, c.in_ok-known.ensures.greatest, (c.in_ok-verdict.verdict, c.in_ok-verdict.ensures, c.said_weights.ensures))
