@@ -1,7 +1,6 @@
 -- What is known of a task by its invariants, and of the literals and actions of which a text tells.
-use Rattle.std.proofs.Common.{◌≡◌, ◌<◌, ◌*◌, ◌/◌, ℕ, ◌+◌, List, [], length, drop, Bool, true, false, Some, refl, ap, sym, subst, arith}
+use Rattle.std.proofs.Common.{◌≡◌, ◌<◌, ◌*◌, ◌/◌, ℕ, ◌+◌, List, length, drop, true, false, Some, refl, ap, sym, subst, arith}
 use Rattle.std.specs.Prelude.{slice_get}
-use Rattle.std.specs.List.{AllByRecursion}
 use Rattle.gt_core.specs.Literal.{is_in}
 use Rattle.gt_core.specs.Clauses.{KnownClauses, IsKnownClauses}
 use Rattle.gt_core.specs.Task.{Task}

@@ -13,7 +13,6 @@ use Rattle.grounding_defs.specs.Laws.{AreNumbers}
 use Rattle.state_search.specs.Answer.{AreEntered, IsEnd, IsLeast}
 use Rattle.state_search.specs.declared.answer.End.{End}
 use Rattle.state_search.specs.declared.answer.End.TheVariants as ends
-use Rattle.plan_endings.specs.declared.ending.Ending.{Ending}
 use Rattle.plan_endings.specs.declared.ending.File.TheVariants.{Proof}
 use Rattle.plan_endings.proofs.published.Statuses.{six_seven, six_seven_eight}
 use Rattle.input_files.specs.Limits.{file_in}
@@ -46,7 +45,7 @@ use Rattle.search_top.specs.declared.judged.Judgement.{Judgement}
 use Rattle.search_top.specs.declared.ended.Finding.{Finding}
 use Rattle.search_top.specs.declared.ended.Finding.TheVariants as findings
 use Rattle.search_top.specs.declared.ended.Ended.{Ended}
-use Rattle.search_top.specs.declared.ended.Ended.TheVariants.{Plain, Walked, Usage}
+use Rattle.search_top.specs.declared.ended.Ended.TheVariants.{Walked, Usage}
 use Rattle.search_top.specs.Seen.{Seen, searches, nevers, certifies, names_of}
 use Rattle.search_top.specs.Requested.{requested}
 use Rattle.search_top.specs.Budget.{budget_of}
