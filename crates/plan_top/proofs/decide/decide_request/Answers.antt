@@ -13,16 +13,16 @@ use Rattle.requests.specs.declared.request.Request.TheVariants.{Plan, Check, Gro
 use Rattle.plan_endings.specs.declared.ending.Ending.{Ending}
 use Rattle.plan_endings.specs.declared.ending.File.{File}
 use Rattle.plan_endings.specs.declared.ending.File.TheVariants.{Problem}
-use Rattle.input_files.specs.Limits.{file_in}
-use Rattle.input_files.specs.Named.{names_of, bytes_of}
-use Rattle.input_files.specs.Files.{AreTaken, AreTakenOrLong, FaultsFrom, StopsFrom, NotesAmong}
+use Rattle.plan_tasks.specs.Limits.{file_in}
+use Rattle.plan_tasks.specs.Named.{names_of, bytes_of}
+use Rattle.plan_tasks.specs.Files.{AreTaken, AreTakenOrLong, FaultsFrom, StopsFrom, NotesAmong}
 use Rattle.commands.specs.Files.{file_at, third_of, HasFiles}
 use Rattle.commands.specs.Generated.{AnswersGenerated}
 use Rattle.plan_top.specs.Causes.{Comes, of_one, stopped}
 use Rattle.plan_top.specs.own.Parts.{IsBatch, AnswersBatch}
 use Rattle.plan_top.proofs.Batches.{files_fit, request_comes, request_unread}
 use Rattle.plan_top.proofs.Told.{taken_comes}
-use Rattle.input_files.proofs.published.Hearing.{handed_once, handed_none}
+use Rattle.plan_tasks.proofs.published.Hearing.{handed_once, handed_none}
 use Rattle.plan_endings.proofs.published.Stopped.{EndsAs-handed, EndsAs-weaker}
 use Rattle.plan_top.proofs.decide.decide_request.Goals as goal
 
