@@ -1,5 +1,5 @@
 -- The promises of the top call, each from what it needs alone: mostly that its ending has a cause and that its text is written.
-use Rattle.std.proofs.Common.{◌≡◌, ◌==◌, ◌≤◌, ◌+◌, ◌-◌, ℕ, length, Bool, true, false, List, [], ◌∷◌, Option, Some, None, refl, sym, ap, subst, ◌∙◌, arith, inl, inr}
+use Rattle.std.proofs.Common.{◌≡◌, ◌≤◌, ◌+◌, ℕ, Bool, true, false, List, [], ◌∷◌, Option, Some, None, refl, sym, ap, subst, ◌∙◌, arith, inl, inr}
 use Rattle.std.specs.Prelude.{Contains, ◌⊎◌}
 use Rattle.pl_io.specs.Outside.{Heard, Rose, appended}
 use Rattle.clause_base.specs.Formula.{Cnf}
@@ -117,11 +117,11 @@ ended_apart verdicts.NotEmpty e = cc
 ended_apart (verdicts.TooLong line) e = cc
 ended_apart (verdicts.Syntax at) e = cc
 
-never_more : (formula : Cnf) (text : List ℕ) → verdict_of formula text ≡ verdicts.More → ⊥
+never_more : (cnf : Cnf) (text : List ℕ) → verdict_of cnf text ≡ verdicts.More → ⊥
 unfolding verdict_of
-never_more formula text e = by (has_empty formula.clauses) refl e
+never_more cnf text e = by (has_empty cnf.clauses) refl e
   where
-    by : (b : Bool) → has_empty formula.clauses ≡ b → verdict_of formula text ≡ verdicts.More → ⊥
+    by : (b : Bool) → has_empty cnf.clauses ≡ b → verdict_of cnf text ≡ verdicts.More → ⊥
     by true f g = let never : verdicts.Refuted 0 ≡ verdicts.More = rw f at g in cc
     by false f g = ended_apart _ (rw f at g)
 
@@ -303,8 +303,8 @@ module _ (heard hears : List Heard) (failed fails : List (List ℕ)) (tape : Tap
     verdict_told opened end at printed task g is (too_large plain_end over e) = not_limit n how horizon g end low at plain_end over e
     verdict_told opened end at printed task g is (unread plain_end un e) = not_unread n end low at plain_end un e
     verdict_told opened end at printed task g is (judged verdict e so none) =
-        let formula = formula_at (places_by how) (form_of g.task so.clauses so.components) horizon in
-        let ended = λ (more : verdict ≡ verdicts.More). never_more formula tape.given.bytes (sym (so.holds.is tape.given.bytes (itself tape.given)) ∙ more) in
+        let cnf = formula_at (places_by how) (form_of g.task so.clauses so.components) horizon in
+        let ended = λ (more : verdict ≡ verdicts.More). never_more cnf tape.given.bytes (sym (so.holds.is tape.given.bytes (itself tape.given)) ∙ more) in
         let told = gives verdict ended (sym (ap status_of e) ∙ at) (printed ∙ ap (λ (end : Ended). appended before (text_of end)) e) in (
           record { opened = opened; sound = so.holds.sound },
           claims.of_grounded laws task g is so.clauses so.components so.ordered (λ h clauses components. (file : List ℕ) → IsFileOf tape.given file → claim (verdict_of (formula_at (places_by how) (form_of h.task clauses components) horizon) file))

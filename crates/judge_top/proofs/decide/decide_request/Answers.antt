@@ -29,13 +29,13 @@ pub answer-requires-clause-domain_fits : goal.answer-requires-clause-domain_fits
 answer-requires-clause-domain_fits g c lifetimes within =
     let taken = c.in_ok-files.ensures.taken in
     let short = taken_short (file_in Proof) 0 (c.domain.result.now ∷ c.problem.result.now ∷ []) taken.0 (bytes_of c.in_ok-files.files) taken.2 in
-    rw c.as_slice.ensures short.0
+    rw c.as_slice-first.ensures short.0
 
 pub answer-requires-clause-problem_fits : goal.answer-requires-clause-problem_fits
 answer-requires-clause-problem_fits g c lifetimes within =
     let taken = c.in_ok-files.ensures.taken in
     let short = taken_short (file_in Proof) 0 (c.domain.result.now ∷ c.problem.result.now ∷ []) taken.0 (bytes_of c.in_ok-files.files) taken.2 in
-    rw c.as_slice-2.ensures short.1.0
+    rw c.as_slice-second.ensures short.1.0
 
 pub returns-clause-cause : goal.returns-clause-cause
 returns-clause-cause g c =
@@ -45,4 +45,4 @@ returns-clause-cause g c =
     let files = c.in_ok-files.files in
     let is = both_taken (file_in Proof) d p _ _ taken.0 files.domain files.problem (third_bytes files.third) taken.1 taken.2 in
     weaker _ _
-    (λ end h. taken_for (seen c.args.request.now) d p c.domain.ensures c.problem.ensures _ _ (g.S.Shelf.failed c.args.shelf.now) (g.S.Shelf.failed c.take_all.new.shelf) (tape_run (g.T.Tape.faults c.args.tape.now) (g.T.Tape.faults c.answer.new.tape) (g.T.Tape.given c.args.tape.now) (g.T.Tape.given c.answer.new.tape)) end files.domain files.problem is (rw (c.as_slice.ensures, c.as_slice-2.ensures) at h)) c.answer.result c.answer.ensures.cause
+    (λ end h. taken_for (seen c.args.request.now) d p c.domain.ensures c.problem.ensures _ _ (g.S.Shelf.failed c.args.shelf.now) (g.S.Shelf.failed c.take_all.new.shelf) (tape_run (g.T.Tape.faults c.args.tape.now) (g.T.Tape.faults c.answer.new.tape) (g.T.Tape.given c.args.tape.now) (g.T.Tape.given c.answer.new.tape)) end files.domain files.problem is (rw (c.as_slice-first.ensures, c.as_slice-second.ensures) at h)) c.answer.result c.answer.ensures.cause
