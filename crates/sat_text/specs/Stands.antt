@@ -1,5 +1,5 @@
 -- Where a reader stands in a text.
-use Rattle.std.specs.Prelude.{◌≡◌, ◌<◌, ◌+◌, ℕ, Bool, true, false, List, [], ◌∷◌, ◌++◌, length, get_or, Option, Some, None}
+use Rattle.std.specs.Prelude.{◌≡◌, ◌<◌, ◌+◌, ℕ, Bool, true, false, List, [], ◌++◌, length, get_or, Option, Some, None}
 use Rattle.sat_text.specs.declared.words.Signed.{Signed}
 use Rattle.sat_text.specs.Lines.{whole_lines, last_part, counted}
 use Rattle.sat_text.specs.Values.{Told, tells, Outcome, Stops, Tells, after_lines}

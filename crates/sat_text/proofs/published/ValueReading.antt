@@ -9,7 +9,7 @@ use Rattle.sat_text.specs.Lines.{whole_lines, last_part, has_no_end, counted}
 use Rattle.sat_text.proofs.published.Texts.{Split, no_end, cut, split_line, last_on, last_more}
 use Rattle.sat_text.proofs.published.Pieces as pieces
 use Rattle.sat_text.specs.Values.{Told, with_line, Outcome, Stops, Tells, outcome_told, outcome_of, most_values_line, after_lines, NoText, LongLine, Values, values_told, reading_of, model_of, refused_by}
-use Rattle.sat_text.specs.Stands.{ReaderView, Holds, HasTold, Goes, IsBefore, Comes, HasRead}
+use Rattle.sat_text.specs.Stands.{ReaderView, Holds, HasTold, Goes, Comes, HasRead}
 use Rattle.sat_text.proofs.ValueNumbers.{went, went_not}
 use Rattle.sat_text.proofs.ValueMarks.{row_is, values_long}
 

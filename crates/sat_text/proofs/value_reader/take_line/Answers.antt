@@ -1,4 +1,4 @@
-use Rattle.std.proofs.Common.{◌≡◌, ◌∙◌, ℕ, true, Some, arith, refl, sym, ap}
+use Rattle.std.proofs.Common.{◌∙◌, ℕ, true, Some, arith, refl, sym, ap}
 use Rattle.sat_text.specs.declared.value_reader.Refused.TheVariants as refused
 use Rattle.sat_text.specs.Values.{with_line}
 use Rattle.sat_text.proofs.ValueNumbers.{goes_same}

@@ -1,4 +1,4 @@
-use Rattle.std.proofs.Common.{◌≡◌, ◌∙◌, ◌++◌, ◌∷◌, [], ℕ, List, Ok, sym, ap, subst}
+use Rattle.std.proofs.Common.{◌∙◌, ◌++◌, ◌∷◌, [], ℕ, List, Ok, sym, ap, subst}
 use Rattle.sat_text.proofs.published.Texts.{text_on, text_longer}
 use Rattle.sat_text.specs.Values.{model_of}
 use Rattle.sat_text.specs.Stands.{HasRead}

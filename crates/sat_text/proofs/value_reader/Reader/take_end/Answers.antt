@@ -1,4 +1,4 @@
-use Rattle.std.proofs.Common.{◌≡◌, ◌==◌, ◌∙◌, ◌++◌, [], List, ℕ, length, refl, sym, ap, subst}
+use Rattle.std.proofs.Common.{◌==◌, ◌∙◌, ◌++◌, List, ℕ, length, refl, sym, ap, subst}
 use Rattle.std.proofs.lemmas.Bool.{eqb-true}
 use Rattle.std.proofs.lemmas.List.{nil_from_length}
 use Rattle.sat_text.specs.Stands.{ReaderView, IsBefore}
