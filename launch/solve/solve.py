@@ -2,6 +2,7 @@
 import os
 import sys
 
+import certificates
 import options
 import planfile
 import report
@@ -34,6 +35,8 @@ def find_others(call, given):
     if not call.planner:
         raise solvers.NoSolver("there is no planner to check plans")
     there = {"plan"} | {it for it in ("search", "never") if getattr(call, {"search": "searcher", "never": "judge_of_never"}[it])}
+    if "never" in there and call.judge:
+        there |= {it for it in certificates.NAMED if certificates.found(it, call.path)}
     if given["planner"]:
         call.planner_words = options.command(given["planner"], call.path)
         if call.planner_words is None:
