@@ -9,3 +9,4 @@ pub mod ChainWalks
 pub mod Refilled
 pub mod Lookups
 pub mod published
+pub mod Origins

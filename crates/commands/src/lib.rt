@@ -16,6 +16,6 @@
 
 pub mod answer;
 mod certify;
-mod generated;
+pub mod generated;
 pub mod raced;
 pub mod reported;

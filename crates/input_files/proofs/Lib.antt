@@ -1,2 +1,1 @@
-pub mod Several
 pub mod published

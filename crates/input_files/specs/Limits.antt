@@ -1,8 +1,7 @@
 -- What the files of a request are, in the order of the words, and how many bytes each may have.
 use Rattle.std.specs.Prelude.{◌≤◌, ℕ, ◌+◌, ◌==◌, List, [], ◌∷◌, length, if◌then◌else◌}
-use Rattle.requests.specs.Seen.{Seen, verifies, batches}
 use Rattle.plan_endings.specs.declared.ending.File.{File}
-use Rattle.plan_endings.specs.declared.ending.File.TheVariants.{Domain, Problem, Plan, Proof}
+use Rattle.plan_endings.specs.declared.ending.File.TheVariants.{Domain, Problem, Proof}
 use Rattle.containers.specs.Limits.{certificate_bytes, most_bytes}
 
 -- how many bytes a file may have
@@ -10,15 +9,9 @@ abbrev pub most_of : File → ℕ
 most_of Proof = certificate_bytes
 most_of file = most_bytes
 
--- what the files after the first two of a request are
-abbrev pub third_of : Seen → File
-third_of (verifies d p c) = Proof
-third_of (batches d ps n t) = Problem
-third_of request = Plan
-
--- what the file at a place among those of a request is
-abbrev pub file_at : Seen → ℕ → File
-file_at request place = if place == 0 then Domain else if place == 1 then Problem else third_of request
+-- what the file at a place among those of a command is, by what the files after the first two are
+abbrev pub file_in : File → ℕ → File
+file_in third place = if place == 0 then Domain else if place == 1 then Problem else third
 
 -- files from a place on have no more bytes than they may have
 abbrev pub AreShort : (ℕ → File) → ℕ → List (List ℕ) → Type 0

@@ -2,10 +2,8 @@
 //! them ends the run.
 //!
 //! ```text
-//! let files = take_all::<Bytes, S>(alloc, &request, shelf)?;    // the bytes of each; or the run stops with an ending
+//! let files = take_all(alloc, names, File::Plan, shelf)?;    // the bytes of each; or the run stops with an ending
 //! ```
 #![tactic(auto)]
 
-pub mod first;
-pub mod parts;
 pub mod take;

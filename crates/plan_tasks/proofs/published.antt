@@ -1,3 +1,4 @@
 pub mod Claims
 pub mod Printing
+pub mod Statuses
 pub mod TellingPlans

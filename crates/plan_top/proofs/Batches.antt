@@ -10,7 +10,8 @@ use Rattle.plan_endings.specs.declared.ending.Ending.{Ending}
 use Rattle.plan_endings.specs.declared.ending.Ending.TheVariants.{ReadFault}
 use Rattle.plan_endings.specs.declared.ending.File.{File}
 use Rattle.plan_endings.specs.declared.ending.File.TheVariants.{Domain, Problem}
-use Rattle.input_files.specs.Limits.{most_of, file_at}
+use Rattle.input_files.specs.Limits.{most_of}
+use Rattle.commands.specs.Files.{file_at}
 use Rattle.containers.specs.Limits.{most_bytes}
 use Rattle.input_files.specs.Files.{FaultsFrom, IsWhole, IsFront, IsWholeOrFront, AreTakenOrLong}
 use Rattle.commands.specs.Tasks.{grounded}

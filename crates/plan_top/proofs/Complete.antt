@@ -30,7 +30,8 @@ use Rattle.plan_endings.specs.declared.ending.Ending.TheVariants.{Report, TooLar
 use Rattle.plan_endings.specs.declared.ending.File.{File}
 use Rattle.plan_endings.specs.declared.ending.File.TheVariants.{Domain, Problem}
 use Rattle.containers.specs.Limits.{most_bytes}
-use Rattle.input_files.specs.Limits.{AreShort, file_at, most_of}
+use Rattle.input_files.specs.Limits.{AreShort, most_of}
+use Rattle.commands.specs.Files.{file_at}
 use Rattle.input_files.specs.Files.{IsFront, AreOf, StopsFrom, FaultsFrom, RoseAmong}
 use Rattle.input_files.proofs.published.Hearing.{front_long, taken_are, of_front}
 use Rattle.clause_base.specs.declared.log.Entry.{Entry}

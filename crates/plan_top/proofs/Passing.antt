@@ -29,7 +29,7 @@ use Rattle.plan_endings.specs.declared.ending.File.TheVariants.{Proof}
 use Rattle.plan_endings.specs.declared.ending.Ending.{Ending}
 use Rattle.plan_endings.specs.declared.ending.Ending.TheVariants.{Listing, TooLong, TooLarge, Found as FoundPlan, Open}
 use Rattle.plan_endings.specs.Ending.{status_of}
-use Rattle.input_files.specs.Limits.{file_at}
+use Rattle.commands.specs.Files.{file_at}
 use Rattle.commands.specs.Tasks.{IsReady, OnceRead, not_read, read, OnceGrounded, not_grounded, grounded}
 use Rattle.commands.specs.Answers.{AnswersProve, not_run, run, AnswersProof, not_checked, checked, AnswersVerify, unfit, beyond, spelled, ending_of_run, ending_of_check}
 use Rattle.plan_claims.specs.Laws.{Laws}

@@ -26,7 +26,7 @@ use Rattle.plan_endings.specs.declared.ending.Outcome.{Outcome}
 use Rattle.plan_endings.specs.declared.ending.Outcome.TheVariants as outcomes
 use Rattle.plan_endings.specs.declared.ending.Ending.{Ending}
 use Rattle.plan_endings.specs.declared.ending.Ending.TheVariants.{Report, Listing, Reaches, Blocked, Short, Refused, TooLong, TooMany, TooLarge, ReadFault, Usage, Found, Open, Accepted, Rejected, NotEmpty, Parts as Batched}
-use Rattle.input_files.specs.Limits.{file_at}
+use Rattle.commands.specs.Files.{file_at}
 use Rattle.input_files.specs.Files.{AreTaken, StopsFrom, FaultsFrom, RoseAmong}
 use Rattle.input_files.proofs.published.Hearing.{two_taken, three_taken}
 use Rattle.commands.specs.Stepping.{places_by, is_plan_by}

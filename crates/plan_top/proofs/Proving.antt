@@ -31,7 +31,7 @@ use Rattle.plan_endings.specs.declared.ending.Outcome.{Outcome}
 use Rattle.plan_endings.specs.declared.ending.Ending.{Ending}
 use Rattle.plan_endings.specs.Ending.{text_of}
 use Rattle.plan_endings.specs.declared.ending.Ending.TheVariants.{Report, Listing, TooLong, Found as FoundPlan}
-use Rattle.input_files.specs.Limits.{file_at}
+use Rattle.commands.specs.Files.{file_at}
 use Rattle.commands.specs.Stepping.{places_by}
 use Rattle.commands.specs.Tasks.{IsReady, OnceGrounded, not_grounded, grounded}
 use Rattle.commands.specs.Raced.{input_of}

@@ -26,7 +26,7 @@ use Rattle.plan_endings.specs.declared.ending.Ending.{Ending}
 use Rattle.plan_endings.specs.declared.ending.Ending.TheVariants.{Refused, TooMany, Usage}
 use Rattle.plan_endings.specs.declared.ending.Limit.{Limit}
 use Rattle.plan_endings.specs.Ending.{batch_of}
-use Rattle.input_files.specs.Limits.{file_at}
+use Rattle.commands.specs.Files.{file_at}
 use Rattle.input_files.specs.Files.{AreTaken, FaultsFrom}
 use Rattle.requests.specs.declared.request.Stepping.{Stepping}
 use Rattle.certificates.specs.declared.prove.Proved.{Proved}

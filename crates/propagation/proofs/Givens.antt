@@ -3,7 +3,7 @@ use Rattle.std.proofs.Common.{arith, ◌≡◌, ◌≢◌, ◌==◌, ℕ, zero, 
 use Rattle.std.proofs.Common.{leb, ltb, Bool, true, false, not, ◌||◌, All, None, refl, sym, ap, ◌∙◌, subst, ◌⊎◌, inl, inr, length-set}
 use Rattle.std.proofs.Common.{get_or-set_same, get_or-set_other}
 use Rattle.std.proofs.lemmas.Bool.Decides.{nat_tests}
-use Rattle.std.proofs.lemmas.List.{map-append, length_push, get_or_push, get_or_append_left}
+use Rattle.std.proofs.lemmas.List.{map-append, length_push, get_or_push, get_or_append_left, get_or-replicate}
 use Rattle.std.proofs.lemmas.List.Elements.{All-get_or}
 use Rattle.std.proofs.lemmas.Grind.{replicate_next}
 use Rattle.clause_base.specs.Clause.{IsClause, HasVariablesBelow, has_literal}
@@ -251,15 +251,16 @@ take_none zero l = refl
 take_none (suc n) l = refl
 
 pub sound_given : (v : ℕ) (t : Tables) (g : Given) (trail : List ℕ) (quiet : List Bool) → v ≤ 2147483647 → length t.store ≤ 1073741824
-    → IsFit t.store (2 * v) → t.kept.items ≡ replicate (length t.store) true → t.slots.items ≡ g.slots.items → trail ≡ []
+    → IsFit t.store (2 * v) → t.kept.items ≡ replicate (length t.store) true → t.kept_below ≡ length t.store → t.slots.items ≡ g.slots.items → trail ≡ []
     → AreGiven (2 * v) t.store (length t.store) g → length quiet ≡ v + 1 → AreStepped t.store t.slots.items t.steps → AreSound v t g.lists trail quiet
-sound_given v t g trail quiet small few fit ek es et i size steps = record {
+sound_given v t g trail quiet small few fit ek eb es et i size steps = record {
   small = small;
   tables = record {
     limit = omega (arith, small);
     fit = fit;
     small = omega (arith, few);
     kept = ap (λ (ks : List Bool). length ks) ek ∙ long_flags (length t.store);
+    whole = rw (ek, eb) (λ k h. get_or-replicate (length t.store) k true false h);
     slotted = rw es i.slotted;
     few = rw es (omega (arith, i.few, few));
     steps = steps;

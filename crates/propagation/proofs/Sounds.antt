@@ -1,5 +1,5 @@
 -- All that holds of the tables holds with a new clause, and with one literal more that is true.
-use Rattle.std.proofs.Common.{arith, ◌≡◌, ℕ, ◌*◌, ◌<◌, ◌≤◌, List, [], ◌∷◌, ◌++◌, length, get_or, leb, Bool, true, false, refl, sym, ap, ◌∙◌, subst}
+use Rattle.std.proofs.Common.{arith, ◌≡◌, ℕ, zero, suc, ◌*◌, ◌<◌, ◌≤◌, List, [], ◌∷◌, ◌++◌, length, get_or, leb, Bool, true, false, refl, sym, ap, ◌∙◌, subst}
 use Rattle.std.proofs.lemmas.List.{length_push}
 use Rattle.clause_base.specs.Clause.{has_literal, IsClause, HasVariablesBelow}
 use Rattle.propagation.specs.declared.enter.Entered.{Entered}
@@ -40,6 +40,7 @@ pub record IsAddedTo (v : ℕ) (t : Tables) (l : WatchState) (trail : List ℕ) 
   pub store : t'.store ≡ t.store ++ k ∷ []
   pub steps : t'.steps ≡ t.steps
   pub kept : t'.kept.items ≡ t.kept.items ++ true ∷ []
+  pub kept_below : t'.kept_below ≡ t.kept_below
   pub taken : IsTaken k number (2 * v) trail t.slots.items l t'.slots.items l'
   pub calm : IsQuietBelow k trail entered.low
   pub ask : entered.low ≤ length trail → IsAsk (has_literal trail) k entered.ask
@@ -48,6 +49,12 @@ pub record IsAddedTo (v : ℕ) (t : Tables) (l : WatchState) (trail : List ℕ) 
   pub same : (n : ℕ) → n < entered.low → get_or quiet' n false ≡ get_or quiet n false
   pub off : (n : ℕ) → entered.low ≤ n → n < length trail → get_or quiet' n false ≡ false
 
+-- a clause that was kept is so beside a new one
+kept_push : (kept : List Bool) (n : ℕ) → get_or kept n false ≡ true → get_or (kept ++ true ∷ []) n false ≡ true
+kept_push [] n e = absurd (let w : ⊥ = cc in w)
+kept_push (b ∷ kept) zero e = e
+kept_push (b ∷ kept) (suc n) e = kept_push kept n e
+
 tables_add : (v : ℕ) (t : Tables) (l : WatchState) (trail : List ℕ) (quiet : List Bool) (k : List ℕ) (number : ℕ) (entered : Entered) (t' : Tables) (l' : WatchState) (p : Pending) (quiet' : List Bool)
     → AreSound v t l trail quiet → IsAddedTo v t l trail quiet k number entered t' l' p quiet' → AreTables t' (2 * v)
 tables_add v t l trail quiet k number entered t' l' p quiet' i a = record {
@@ -55,6 +62,7 @@ tables_add v t l trail quiet k number entered t' l' p quiet' i a = record {
   fit = rw a.store (fit_add t.store k (2 * v) i.tables.fit (λ q b. below_by v q k a.below b) (short_by v k i.small a.lawful a.below) a.lawful);
   small = omega (arith, ap (λ (cs : List (List ℕ)). length cs) a.store, length_push t.store k, i.few);
   kept = omega (arith, ap (λ (ks : List Bool). length ks) a.kept, length_push t.kept.items true, i.tables.kept, ap (λ (cs : List (List ℕ)). length cs) a.store, length_push t.store k);
+  whole = rw (a.kept, a.kept_below) (λ n h. kept_push t.kept.items n (i.tables.whole n h));
   slotted = subst (λ (n : ℕ). AreSlotsBelow n t'.slots.items) (sym (ap (λ (cs : List (List ℕ)). length cs) a.store ∙ length_push t.store k))
       (taken_below (length t.store) k number (2 * v) trail t.slots.items l t'.slots.items l' a.numbered a.taken i.tables.slotted);
   few = omega (arith, i.few, i.slots_few, taken_few k number (2 * v) trail t.slots.items l t'.slots.items l' a.taken);

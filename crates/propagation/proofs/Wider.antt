@@ -70,6 +70,7 @@ sound_again v t t' l trail quiet i e = record {
     fit = rw e.store i.tables.fit;
     small = rw e.store i.tables.small;
     kept = rw (e.store, e.kept) i.tables.kept;
+    whole = rw (e.kept, e.kept_below) i.tables.whole;
     slotted = rw (e.store, e.slots) i.tables.slotted;
     few = rw e.slots i.tables.few;
     steps = rw (e.store, e.slots, e.steps) i.tables.steps;

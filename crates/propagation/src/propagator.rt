@@ -9,13 +9,13 @@ ghost use Rattle.cdcl_tables.specs.Assignment.{literals};
 ghost use Rattle.propagation.specs.own.Back.{taken_back};
 ghost use Rattle.propagation.specs.Front.{first_asked};
 ghost use Rattle.propagation.specs.Known.{AreListed};
-ghost use Rattle.propagation.specs.Pending.{PropagatorView};
+ghost use Rattle.propagation.specs.Pending.{HasOwn, PropagatorView};
 
 use crate::front::next;
 use crate::known::{PendingUpTo, list_from};
 use crate::marks::mark_pairs;
 use crate::pending::Pending;
-use crate::quiet::raise;
+use crate::quiet::{leave, raise};
 use crate::room::make_room;
 use crate::scan::status_of;
 use crate::spare::OldTables;
@@ -98,6 +98,7 @@ impl Propagator {
         let spare = spare.fitted(alloc, &store, formula)?;
         let OldTables { kept, quiet, given } = spare;
         let steps = Steps::new(alloc, formula, &given.slots)?;
+        let kept_below = store.count();
         Ok(Propagator {
             variables,
             tables: Tables {
@@ -105,6 +106,7 @@ impl Propagator {
                 kept,
                 slots: given.slots,
                 steps,
+                kept_below,
             },
             trail,
             pairs,
@@ -199,15 +201,17 @@ impl Propagator {
     pub fn assign(&mut self, entry: Assigned)
         requires below { entry.literal < 2 * self.old.variables }
         requires opened { value_of self.old.entries (entry.literal / 2) ≡ None }
+        requires reason { HasOwn self.old.clauses entry }
         ensures { self.new ≡ record self.old { entries = self.old.entries ++ entry ∷ [] } }
     {
         let falsified = entry.literal.opposite();
         let length = self.trail.length();
-        let least = self.lists.pending.numbers.least();
-        self.quiet[length as usize] = least.is_none();
-        // The clause that forces the literal is the least one, and is pending no more. Without it the set is mostly empty, so that the
-        // next one that enters is the least.
-        self.lists.pending.take_asking(entry.literal);
+        leave(
+            &mut self.quiet,
+            length,
+            &mut self.lists.pending,
+            entry.reason,
+        );
         self.trail.push(entry);
         let assignment = self.trail.assignment();
         mark_pairs(
@@ -294,5 +298,6 @@ impl Propagator {
         ensures { self.new ≡ record self.old { kept = slice_set self.old.kept number false } }
     {
         self.tables.kept[number as usize] = false;
+        self.tables.kept_below = self.tables.kept_below.min(number);
     }
 }

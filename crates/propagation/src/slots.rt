@@ -3,7 +3,7 @@ ghost use Rattle.std.specs.Prelude.{◌≡◌, ◌<◌, length, false, slice_ind
 ghost use Rattle.cdcl_defs.specs.State.{clause_at};
 ghost use Rattle.propagation.specs.own.Steps.{AreStepped};
 ghost use Rattle.propagation.specs.own.Visit.{AreSlotsBelow};
-ghost use Rattle.propagation.specs.own.Tables.{clauses_in, flags_in};
+ghost use Rattle.propagation.specs.own.Tables.{AreKeptBelow, clauses_in, flags_in};
 
 use crate::tables::Tables;
 use clause_base::view::View;
@@ -31,6 +31,7 @@ pub fn slot_clause(tables: &Tables, slot: u32) -> View<'_>
 pub fn is_slot_kept(tables: &Tables, slot: u32) -> bool
     requires inside { slot < length tables.now.slots.items }
     requires below { AreSlotsBelow (length tables.now.kept.items) tables.now.slots.items }
+    requires whole { AreKeptBelow tables.now.kept_below tables.now.kept.items }
     ensures { result ≡ slice_index_or (flags_in tables.now) slot false }
 {
     tables.is_kept(tables.number_at(slot))

@@ -54,6 +54,10 @@ module _ (told : List ℕ → Option (List ℕ)) (lacks : List ℕ → Bool) whe
   pub agrees_more : (old middle new : List Heard) → Agrees told lacks old middle → Agrees told lacks middle new → Agrees told lacks old new
   agrees_more old middle new a b = (a.0 ++ b.0, more_heard old middle new a.0 b.0 a.1 b.1, both_told a.0 b.0 a.2 b.2)
 
+  -- and so does what is handed over of three, one after the other
+  pub agrees_three : (old one two new : List Heard) → Agrees told lacks old one → Agrees told lacks one two → Agrees told lacks two new → Agrees told lacks old new
+  agrees_three old one two new a b c = agrees_more old two new (agrees_more old one two a b) c
+
 -- ---- what was handed over of files that are known
 
 -- a file of which a front was handed over has more bytes than it may have

@@ -1,20 +1,25 @@
 -- What is known while the files of a request are taken, in order: what holds of the rest of them holds of all.
-use Rattle.std.proofs.Common.{◌≡◌, ◌<◌, ◌≤◌, ℕ, ◌+◌, List, [], ◌∷◌, ◌++◌, length, drop, Some, None, refl, sym, ap, subst, ◌∙◌, arith, inl, inr, append_assoc, append-nil, length-append, add-one, suc}
-use Rattle.std.specs.Prelude.{slice_get}
+use Rattle.std.proofs.Common.{◌≡◌, ◌<◌, ◌≤◌, ℕ, ◌+◌, ◌==◌, Bool, true, false, List, [], ◌∷◌, ◌++◌, length, drop, Option, Some, None, refl, sym, ap, subst, ◌∙◌, arith, inl, inr, append_assoc, append-nil, length-append, add-one, suc}
+use Rattle.std.specs.Prelude.{slice_get, option_map, if◌then◌else◌}
+use Rattle.std.specs.Borrow.{Bor}
+use Rattle.clap.specs.Walk.{texts}
 use Rattle.std.proofs.Math.Seq.{drop-cons}
 use Rattle.std.proofs.Math.ListN.{drop_of_length-le}
-use Rattle.std.proofs.lemmas.Option.{slice_get_within, slice_get_cases, get_or_from_slice_get}
+use Rattle.std.proofs.lemmas.Option.{slice_get_within, slice_get_cases, slice_get_past, slice_get-map, get_or_from_slice_get}
+use Rattle.std.proofs.lemmas.Bool.Decides.{eqb_tells}
+use Rattle.std.proofs.lemmas.List.{length-map}
 use Rattle.std.proofs.lemmas.List.Sums.{sum_by-append}
 use Rattle.pl_io.specs.Outside.{Heard, Notes, fault_count}
 use Rattle.requests.specs.Among.{AreAmong}
 use Rattle.plan_endings.specs.declared.ending.Ending.{Ending}
 use Rattle.plan_endings.specs.declared.ending.Ending.TheVariants.{TooLong, ReadFault}
 use Rattle.plan_endings.specs.declared.ending.File.{File}
+use Rattle.plan_endings.specs.declared.ending.File.TheVariants.{Domain, Problem}
 use Rattle.plan_endings.specs.Ends.{EndsBy}
 use Rattle.plan_endings.specs.declared.stop.Stop.{Stop}
 use Rattle.plan_endings.specs.declared.stop.Stop.TheVariants.{Ends}
-use Rattle.input_files.specs.Limits.{AreShort}
-use Rattle.input_files.specs.Files.{Stops, IsFront, IsKept, AreTaken, AreKept, OneEnds, Rises, NotesAmong}
+use Rattle.input_files.specs.Limits.{AreShort, file_in}
+use Rattle.input_files.specs.Files.{Stops, IsWhole, IsWholeOrFront, IsFault, IsFront, IsKept, AreTaken, AreKept, OneEnds, Rises, NotesAmong}
 
 -- ---- what is left of a list
 
@@ -32,6 +37,25 @@ drop_none xs n none = elim (slice_get_cases xs n).1 [
 -- the name after those whose files were taken
 pub name_at : {A : Type 0} (names : List A) (n m : ℕ) (name : A) → n ≡ m → Some name ≡ slice_get names n → slice_get names m ≡ Some name
 name_at names n m name e h = rw e at (sym h)
+
+-- the problem after those that were taken, among the names of a batch
+pub text_at : (domain : List ℕ) (problems : List (Bor (List ℕ))) (n m : ℕ) (name : Bor (List ℕ)) → m ≡ n + 1 → slice_get problems n ≡ Some name → slice_get (domain ∷ texts problems) m ≡ Some name.now
+text_at domain problems n m name next at = rw (next, add-one) (slice_get-map (λ (b : Bor (List ℕ)). b.now) problems n ∙ ap (option_map (λ (b : Bor (List ℕ)). b.now)) at)
+
+-- there is none
+pub no_text_at : (domain : List ℕ) (problems : List (Bor (List ℕ))) (n m : ℕ) → m ≡ n + 1 → length problems ≤ n → slice_get (domain ∷ texts problems) m ≡ None
+no_text_at domain problems n m next past = slice_get_past (domain ∷ texts problems) m (omega (arith, next, past, length-map problems (λ (b : Bor (List ℕ)). b.now)))
+
+-- a file of a batch that is not the first is a problem
+pub problem_at : (n : ℕ) → file_in Problem (suc n) ≡ Problem
+problem_at n = elim (eqb_tells (suc n) 0) [
+  | inl (t, zero) ↦ absurd (omega (arith, zero))
+  | inr (f, not_zero) ↦ rw f (either (suc n == 1))
+]
+  where
+    either : (b : Bool) → (if b then Problem else Problem) ≡ Problem
+    either true = refl
+    either false = refl
 
 length_push : {X : Type 0} (xs : List X) (x : X) → length (xs ++ x ∷ []) ≡ length xs + 1
 length_push xs x = omega (arith, length-append xs (x ∷ []))
@@ -85,7 +109,7 @@ ended_long old new was now file name stop end other is long h =
     step took handed (inr (same, (heard, one, front))) = (heard, handed ∙ ap (λ (xs : List Heard). was ++ xs) one, front)
 
 -- the ending of a file that ends the run goes before the files after it
-one_ends : (ends : File → List ℕ → List Heard → Ending → Type 0) (goes : File → List ℕ → Heard → Type 0) (file : ℕ → File) (place : ℕ) (name : List ℕ) (names : List (List ℕ)) (took : List Heard) (end : Ending)
+pub one_ends : (ends : File → List ℕ → List Heard → Ending → Type 0) (goes : File → List ℕ → Heard → Type 0) (file : ℕ → File) (place : ℕ) (name : List ℕ) (names : List (List ℕ)) (took : List Heard) (end : Ending)
     → ends (file place) name took end → OneEnds ends goes file place (name ∷ names) took end
 one_ends ends goes file place name names [] end h = h
 one_ends ends goes file place name names (e ∷ es) end h = inl h
@@ -101,6 +125,10 @@ none_noted names old more among = (more, refl, among)
 
 pub noted_at : (names old now : List (List ℕ)) (done : ℕ) → NotedSoFar names old now done → NotesAmong names old now
 noted_at names old now done so = rw append-nil at (so [] tt)
+
+-- with those of the files that are left
+pub noted_then : (names old now new : List (List ℕ)) (done : ℕ) → NotedSoFar names old now done → (noted : List (List ℕ)) → new ≡ now ++ noted → AreAmong (drop done names) noted → NotesAmong names old new
+noted_then names old now new done so noted is among = rw is (so noted among)
 
 -- with the next file's faults
 pub noted_next : (names old now next : List (List ℕ)) (done : ℕ) (name : List ℕ) → slice_get names done ≡ Some name → Notes now next name → NotedSoFar names old now done → NotedSoFar names old next (done + 1)
@@ -149,3 +177,23 @@ module _ {X : Type 0} (is : File → List ℕ → Heard → X → Type 0) (ends 
         taken = λ more others h. rw (append_assoc took (heard ∷ []) more, append_assoc files (x ∷ []) others) (so.taken (heard ∷ more) (x ∷ others) (rw (drop_at names (length files) name at) (here, rw (length_push files x) at h)));
         on = λ new more end h. rw (append_assoc took (heard ∷ []) more) (so.on new (heard ∷ more) end (rw (drop_at names (length files) name at) (inr ((x, here), rw (length_push files x) at h))));
       }
+
+-- ---- files that are taken whole, one by one
+
+module _ (third : File) (names old : List (List ℕ)) where
+  -- the first of them
+  pub one_whole : (new : List (List ℕ)) (name : List ℕ) → slice_get names 0 ≡ Some name → Notes old new name → (heard : Heard) (bytes : List ℕ) → IsWhole Domain name heard bytes
+      → SoFar IsWhole (Stops old) (file_in third) names old new (heard ∷ []) (bytes ∷ [])
+  one_whole new name at notes heard bytes here = one_more IsWhole (Stops old) (file_in third) names old old [] [] (none_taken IsWhole (Stops old) (file_in third) names old) new name at notes heard bytes here
+
+  -- the first two, and what follows them
+  module _ (middle new : List (List ℕ)) (domain problem : List ℕ) (first_at : slice_get names 0 ≡ Some domain) (at : slice_get names 1 ≡ Some problem) (first_notes : Notes old middle domain) (notes : Notes middle new problem) (heard also : Heard) (bytes others : List ℕ) (is : IsWhole Domain domain heard bytes) (here : IsWhole Problem problem also others) where
+    pub two_whole : SoFar IsWhole (Stops old) (file_in third) names old new (heard ∷ also ∷ []) (bytes ∷ others ∷ [])
+    two_whole = one_more IsWhole (Stops old) (file_in third) names old middle (heard ∷ []) (bytes ∷ []) (one_whole middle domain first_at first_notes heard bytes is) new problem at notes also others here
+
+-- ---- the files of a batch
+
+-- the domain
+pub one_kept : (names old new : List (List ℕ)) (name : List ℕ) → slice_get names 0 ≡ Some name → Notes old new name → (heard : Heard) (kept : Option (List ℕ)) → IsWholeOrFront Domain name heard kept
+    → SoFar IsWholeOrFront (IsFault old) (file_in Problem) names old new (heard ∷ []) (kept ∷ [])
+one_kept names old new name at notes heard kept here = one_more IsWholeOrFront (IsFault old) (file_in Problem) names old old [] [] (none_taken IsWholeOrFront (IsFault old) (file_in Problem) names old) new name at notes heard kept here

@@ -1,5 +1,5 @@
 -- A clause that is no longer kept: what held of kept clauses holds of fewer.
-use Rattle.std.proofs.Common.{arith, ◌≡◌, ℕ, zero, suc, List, [], ◌∷◌, ◌*◌, length, take, set, get_or, Bool, true, false, ◌&&◌, refl, sym, ap, ◌∙◌, length-set}
+use Rattle.std.proofs.Common.{arith, ◌≡◌, ℕ, zero, suc, List, [], ◌∷◌, ◌*◌, length, take, set, get_or, Bool, true, false, ◌&&◌, refl, sym, ap, ◌∙◌, length-set, get_or-set_other, ◌≤◌}
 use Rattle.clause_base.specs.Clause.{has_literal}
 use Rattle.propagation.specs.declared.tables.Tables.{Tables}
 use Rattle.propagation.specs.declared.visit.WatchState.{WatchState}
@@ -40,22 +40,24 @@ none_by a false h e = refl
 
 -- the tables with other flags
 tables_removed : (t t' : Tables) (codes n : ℕ) → AreTables t codes → t'.store ≡ t.store → t'.slots.items ≡ t.slots.items
-    → t'.kept.items ≡ set t.kept.items n false → t'.steps ≡ t.steps → AreTables t' codes
-tables_removed t t' codes n i store slots kept steps = record {
+    → t'.kept.items ≡ set t.kept.items n false → t'.steps ≡ t.steps → t'.kept_below ≤ t.kept_below → t'.kept_below ≤ n → AreTables t' codes
+tables_removed t t' codes n i store slots kept steps less below = record {
   limit = i.limit;
   fit = rw store i.fit;
   small = rw store i.small;
   kept = omega (arith, ap (λ (ks : List Bool). length ks) kept, length-set t.kept.items n false, i.kept, ap (λ (cs : List (List ℕ)). length cs) store);
+  whole = rw kept (λ k h. get_or-set_other t.kept.items n k false false (λ (q : k ≡ n). absurd (omega (arith, q, h, below))) ∙ i.whole k (omega (arith, h, less)));
   slotted = rw (store, slots) i.slotted;
   few = rw slots i.few;
   steps = rw (store, slots, steps) i.steps;
 }
 
 pub removed_sound : (v : ℕ) (t t' : Tables) (l : WatchState) (trail : List ℕ) (quiet : List Bool) (n : ℕ) → AreSound v t l trail quiet → t'.store ≡ t.store
-    → t'.slots.items ≡ t.slots.items → t'.kept.items ≡ set t.kept.items n false → t'.steps ≡ t.steps → AreSound v t' l trail quiet
-removed_sound v t t' l trail quiet n i store slots kept steps = record {
+    → t'.slots.items ≡ t.slots.items → t'.kept.items ≡ set t.kept.items n false → t'.steps ≡ t.steps
+    → t'.kept_below ≤ t.kept_below → t'.kept_below ≤ n → AreSound v t' l trail quiet
+removed_sound v t t' l trail quiet n i store slots kept steps less below = record {
   small = i.small;
-  tables = tables_removed t t' (2 * v) n i.tables store slots kept steps;
+  tables = tables_removed t t' (2 * v) n i.tables store slots kept steps less below;
   few = rw store i.few;
   slots_few = rw (store, slots) i.slots_few;
   rest = rw (store, slots, kept) (record {

@@ -1,5 +1,5 @@
 -- The tables that are read where clauses are visited and where the first pending one is sought.
-use Rattle.std.specs.Prelude.{◌≡◌, ℕ, ◌≤◌, List, Bool, length}
+use Rattle.std.specs.Prelude.{◌≡◌, ℕ, ◌<◌, ◌≤◌, List, Bool, true, false, length, slice_index_or}
 use Rattle.propagation.specs.declared.tables.Tables.{Tables}
 use Rattle.propagation.specs.Pending.{is_pending_on}
 use Rattle.propagation.specs.own.Steps.{AreStepped}
@@ -17,6 +17,10 @@ flags_in t = slot_flags t.kept.items t.slots.items
 abbrev pub pending_in : Tables → List ℕ → ℕ → Bool
 pending_in t trail = is_pending_on t.store t.kept.items trail
 
+-- each clause below a number is kept
+abbrev pub AreKeptBelow : ℕ → List Bool → Type 0
+AreKeptBelow n kept = (k : ℕ) → k < n → slice_index_or kept k false ≡ true
+
 -- what holds of the tables, where the literals are below a number: so a clause, its flag and its slots are found by its number, and codes
 -- and numbers have 32 bits
 pub record AreTables (t : Tables) (codes : ℕ) : Type 0 where
@@ -24,6 +28,7 @@ pub record AreTables (t : Tables) (codes : ℕ) : Type 0 where
   pub fit : IsFit t.store codes
   pub small : length t.store ≤ 4294967295
   pub kept : length t.kept.items ≡ length t.store
+  pub whole : AreKeptBelow t.kept_below t.kept.items
   pub slotted : AreSlotsBelow (length t.store) t.slots.items
   pub few : length t.slots.items ≤ 4294967295
   pub steps : AreStepped t.store t.slots.items t.steps

@@ -1,91 +1,82 @@
-use Rattle.std.proofs.Common.{◌≡◌, ◌++◌, ◌∷◌, [], refl, sym, length, None, arith, append-nil, length-append}
-use Rattle.std.specs.Prelude.{slice_get}
-use Rattle.std.proofs.lemmas.Option.{slice_get_within}
-use Rattle.requests.specs.Seen.{seen, files_of}
-use Rattle.input_files.specs.Limits.{file_at}
-use Rattle.input_files.proofs.published.Hearing.{more_heard, agrees_same, agrees_more}
+use Rattle.std.proofs.Common.{◌∷◌, [], refl, arith}
+use Rattle.input_files.specs.Limits.{file_in}
+use Rattle.input_files.specs.Named.{names_of, third_name, third_bytes}
+use Rattle.input_files.specs.Files.{IsKept, IsWhole, Stops}
 use Rattle.plan_endings.proofs.published.Stopped.{Stops-handed}
-use Rattle.input_files.proofs.published.Taking.{name_at, none_taken, noted_so, noted_here, rises_so, ends_here, one_more, all_taken}
+use Rattle.input_files.proofs.published.Hearing.{more_heard, agrees_three}
+use Rattle.input_files.proofs.published.Taking.{rises_so, noted_here, noted_then, ends_here, one_ends, one_whole, two_whole}
 use Rattle.input_files.proofs.take.take_all.Goals as goal
 
-pub taking-init : goal.taking-init
-taking-init g c = record {
-  told = refl;
-  lacks = refl;
-  agrees = agrees_same _ _ (g.S.Shelf.heard c.args.shelf.now) (g.S.Shelf.heard c.args.shelf.now) refl;
-  so = ([], sym (append-nil (g.S.Shelf.heard c.args.shelf.now)), rw c.new-files.ensures.items (none_taken _ _ _ _ _));
-}
+pub returns-in_err-domain-clause-stops : goal.returns-in_err-domain-clause-stops
+returns-in_err-domain-clause-stops g c =
+    Stops-handed _ _ (λ end h. (h.0, h.1, one_ends (Stops (g.S.Shelf.failed c.args.shelf.now) (g.S.Shelf.failed c.take_one.new.shelf)) (IsKept IsWhole) (file_in c.args.third) 0 c.args.names.domain.now (c.args.names.problem.now ∷ third_name c.args.names.third) h.0 end h.2)) c.in_err-domain.field-0.0 c.from_residual.result c.from_residual.ensures.1
+    (c.in_err-domain.ensures.ends (g.S.Shelf.failed c.args.shelf.now) (λ name. omega arith))
 
-pub returns-in_err-file-clause-noted : goal.returns-in_err-file-clause-noted
-returns-in_err-file-clause-noted g c =
-    noted_here _ _ (file_at (seen c.args.request.now)) _ _ _ _ _ c.taking.invariant.so.2 (g.S.Shelf.failed c.take.new.shelf) c.in-Some.name.now
-    (name_at (files_of (seen c.args.request.now)) c.len.result (length c.taking.files.items) c.in-Some.name.now (omega (arith, c.taking.files.ok)) c.in-Some.ensures) c.in_err-file.ensures.notes
+pub returns-in_err-problem-clause-noted : goal.returns-in_err-problem-clause-noted
+returns-in_err-problem-clause-noted g c =
+    let k = c.in_ok-domain.ensures.kept in
+    noted_here _ _ (file_in c.args.third) _ _ _ _ _ (one_whole c.args.third (names_of c.args.names) (g.S.Shelf.failed c.args.shelf.now) (g.S.Shelf.failed c.take_one.new.shelf) c.args.names.domain.now refl c.in_ok-domain.ensures.notes k.0 c.in_ok-domain.domain k.2)
+    (g.S.Shelf.failed c.take_one-2.new.shelf) c.args.names.problem.now refl c.in_err-problem.ensures.notes
 
-pub returns-in_err-file-clause-agrees : goal.returns-in_err-file-clause-agrees
-returns-in_err-file-clause-agrees g c =
-    agrees_more _ _ (g.S.Shelf.heard c.args.shelf.now) (g.S.Shelf.heard c.taking.shelf) (g.S.Shelf.heard c.take.new.shelf) c.taking.invariant.agrees
-    (rw (c.taking.invariant.told, c.taking.invariant.lacks) at c.in_err-file.ensures.agrees)
-
-pub returns-in_err-push-clause-agrees : goal.returns-in_err-push-clause-agrees
-returns-in_err-push-clause-agrees g c =
-    agrees_more _ _ (g.S.Shelf.heard c.args.shelf.now) (g.S.Shelf.heard c.taking.shelf) (g.S.Shelf.heard c.take.new.shelf) c.taking.invariant.agrees
-    (rw (c.taking.invariant.told, c.taking.invariant.lacks) at c.in_ok-file.ensures.agrees)
-
-pub returns-in_err-file-clause-stops : goal.returns-in_err-file-clause-stops
-returns-in_err-file-clause-stops g c =
-    let names = files_of (seen c.args.request.now) in
-    let next = g.S.Shelf.failed c.take.new.shelf in
-    let so = c.taking.invariant.so in
-    let at = name_at names c.len.result (length c.taking.files.items) c.in-Some.name.now (omega (arith, c.taking.files.ok)) c.in-Some.ensures in
-    let same : c.len-in-Some.result ≡ length c.taking.files.items = omega (arith, c.taking.files.ok) in
-    let rises = rises_so _ _ (file_at (seen c.args.request.now)) _ _ _ _ _ so.2 in
-    let ends = rw (c.file_of.ensures, same) at (c.in_err-file.ensures.ends (g.S.Shelf.failed c.args.shelf.now) rises) in
+pub returns-in_err-problem-clause-stops : goal.returns-in_err-problem-clause-stops
+returns-in_err-problem-clause-stops g c =
+    let k = c.in_ok-domain.ensures.kept in
+    let so = one_whole c.args.third (names_of c.args.names) (g.S.Shelf.failed c.args.shelf.now) (g.S.Shelf.failed c.take_one.new.shelf) c.args.names.domain.now refl c.in_ok-domain.ensures.notes k.0 c.in_ok-domain.domain k.2 in
     Stops-handed _ _
     (λ end h. (
-      so.0 ++ h.0,
-      more_heard (g.S.Shelf.heard c.args.shelf.now) (g.S.Shelf.heard c.taking.shelf) (g.S.Shelf.heard c.take.new.shelf) so.0 h.0 so.1 h.1,
-      ends_here _ _ (file_at (seen c.args.request.now)) _ _ _ _ _ so.2 next c.in-Some.name.now at c.in_err-file.ensures.notes h.0 end h.2,
+      k.0 ∷ h.0,
+      more_heard (g.S.Shelf.heard c.args.shelf.now) (g.S.Shelf.heard c.take_one.new.shelf) (g.S.Shelf.heard c.take_one-2.new.shelf) (k.0 ∷ []) h.0 k.1 h.1,
+      ends_here _ _ (file_in c.args.third) _ _ _ _ _ so (g.S.Shelf.failed c.take_one-2.new.shelf) c.args.names.problem.now refl c.in_err-problem.ensures.notes h.0 end h.2,
     ))
-    c.in_err-file.field-0.0 c.from_residual.result c.from_residual.ensures.1 ends
+    c.in_err-problem.field-0.0 c.from_residual-in_err-problem.result c.from_residual-in_err-problem.ensures.1
+    (c.in_err-problem.ensures.ends (g.S.Shelf.failed c.args.shelf.now) (rises_so _ _ (file_in c.args.third) _ _ _ _ _ so))
 
-pub taking-preserved : goal.taking-preserved
-taking-preserved g c =
-    let names = files_of (seen c.args.request.now) in
-    let so = c.taking.invariant.so in
-    let at = name_at names c.len.result (length c.taking.files.items) c.in-Some.name.now (omega (arith, c.taking.files.ok)) c.in-Some.ensures in
-    let same : c.len-in-Some.result ≡ length c.taking.files.items = omega (arith, c.taking.files.ok) in
-    let kept = rw (c.file_of.ensures, same) at c.in_ok-file.ensures.kept in
-    record {
-      told = cc (c.in_ok-file.ensures.told, c.taking.invariant.told);
-      lacks = cc (c.in_ok-file.ensures.lacks, c.taking.invariant.lacks);
-      agrees = agrees_more _ _ (g.S.Shelf.heard c.args.shelf.now) (g.S.Shelf.heard c.taking.shelf) (g.S.Shelf.heard c.take.new.shelf) c.taking.invariant.agrees
-          (rw (c.taking.invariant.told, c.taking.invariant.lacks) at c.in_ok-file.ensures.agrees);
-      so = (
-        so.0 ++ kept.0 ∷ [],
-        more_heard (g.S.Shelf.heard c.args.shelf.now) (g.S.Shelf.heard c.taking.shelf) (g.S.Shelf.heard c.take.new.shelf) so.0 (kept.0 ∷ []) so.1 kept.1,
-        rw c.in_ok-push.ensures.items (one_more _ _ (file_at (seen c.args.request.now)) _ _ _ _ _ so.2 (g.S.Shelf.failed c.take.new.shelf) c.in-Some.name.now at c.in_ok-file.ensures.notes kept.0 c.in_ok-file.file kept.2),
-      );
-    }
+pub returns-in_err-third-clause-noted : goal.returns-in_err-third-clause-noted
+returns-in_err-third-clause-noted g c =
+    let k = c.in_ok-domain.ensures.kept in
+    let l = c.in_ok-problem.ensures.kept in
+    let so = two_whole c.args.third (names_of c.args.names) (g.S.Shelf.failed c.args.shelf.now) (g.S.Shelf.failed c.take_one.new.shelf) (g.S.Shelf.failed c.take_one-2.new.shelf) c.args.names.domain.now c.args.names.problem.now refl refl c.in_ok-domain.ensures.notes c.in_ok-problem.ensures.notes k.0 l.0 c.in_ok-domain.domain c.in_ok-problem.problem k.2 l.2 in
+    let more = c.in_err-third.ensures.notes in
+    noted_then (names_of c.args.names) (g.S.Shelf.failed c.args.shelf.now) (g.S.Shelf.failed c.take_one-2.new.shelf) (g.S.Shelf.failed c.take_third.new.shelf) 2 so.noted more.0 more.1 more.2
 
-pub taking-smaller : goal.taking-smaller
-taking-smaller g c =
-    let names = files_of (seen c.args.request.now) in
-    let at = name_at names c.len.result (length c.taking.files.items) c.in-Some.name.now (omega (arith, c.taking.files.ok)) c.in-Some.ensures in
-    let within = slice_get_within names (length c.taking.files.items) c.in-Some.name.now at in
-    rw c.in_ok-push.ensures.items (omega (arith, within, length-append c.taking.files.items (c.in_ok-file.file ∷ [])))
+pub returns-in_err-third-clause-agrees : goal.returns-in_err-third-clause-agrees
+returns-in_err-third-clause-agrees g c =
+    agrees_three _ _ (g.S.Shelf.heard c.args.shelf.now) (g.S.Shelf.heard c.take_one.new.shelf) (g.S.Shelf.heard c.take_one-2.new.shelf) (g.S.Shelf.heard c.take_third.new.shelf) c.in_ok-domain.ensures.agrees
+    (rw (c.in_ok-domain.ensures.told, c.in_ok-domain.ensures.lacks) at c.in_ok-problem.ensures.agrees)
+    (rw (c.in_ok-problem.ensures.told, c.in_ok-problem.ensures.lacks, c.in_ok-domain.ensures.told, c.in_ok-domain.ensures.lacks) at c.in_err-third.ensures.agrees)
+
+pub returns-in_err-third-clause-stops : goal.returns-in_err-third-clause-stops
+returns-in_err-third-clause-stops g c =
+    let k = c.in_ok-domain.ensures.kept in
+    let l = c.in_ok-problem.ensures.kept in
+    let so = two_whole c.args.third (names_of c.args.names) (g.S.Shelf.failed c.args.shelf.now) (g.S.Shelf.failed c.take_one.new.shelf) (g.S.Shelf.failed c.take_one-2.new.shelf) c.args.names.domain.now c.args.names.problem.now refl refl c.in_ok-domain.ensures.notes c.in_ok-problem.ensures.notes k.0 l.0 c.in_ok-domain.domain c.in_ok-problem.problem k.2 l.2 in
+    Stops-handed _ _
+    (λ end h. (
+      k.0 ∷ l.0 ∷ h.0,
+      more_heard (g.S.Shelf.heard c.args.shelf.now) (g.S.Shelf.heard c.take_one-2.new.shelf) (g.S.Shelf.heard c.take_third.new.shelf) (k.0 ∷ l.0 ∷ []) h.0 (more_heard (g.S.Shelf.heard c.args.shelf.now) (g.S.Shelf.heard c.take_one.new.shelf) (g.S.Shelf.heard c.take_one-2.new.shelf) (k.0 ∷ []) (l.0 ∷ []) k.1 l.1) h.1,
+      so.on (g.S.Shelf.failed c.take_third.new.shelf) h.0 end h.2,
+    ))
+    c.in_err-third.field-0.0 c.from_residual-in_err-third.result c.from_residual-in_err-third.ensures.1
+    (c.in_err-third.ensures.ends (g.S.Shelf.failed c.args.shelf.now) (rises_so _ _ (file_in c.args.third) _ _ _ _ _ so))
 
 pub returns-clause-noted : goal.returns-clause-noted
-returns-clause-noted g c = noted_so _ _ (file_at (seen c.args.request.now)) _ _ _ _ _ c.taking.invariant.so.2
+returns-clause-noted g c =
+    let k = c.in_ok-domain.ensures.kept in
+    let l = c.in_ok-problem.ensures.kept in
+    let so = two_whole c.args.third (names_of c.args.names) (g.S.Shelf.failed c.args.shelf.now) (g.S.Shelf.failed c.take_one.new.shelf) (g.S.Shelf.failed c.take_one-2.new.shelf) c.args.names.domain.now c.args.names.problem.now refl refl c.in_ok-domain.ensures.notes c.in_ok-problem.ensures.notes k.0 l.0 c.in_ok-domain.domain c.in_ok-problem.problem k.2 l.2 in
+    let more = c.in_ok-third.ensures.notes in
+    noted_then (names_of c.args.names) (g.S.Shelf.failed c.args.shelf.now) (g.S.Shelf.failed c.take_one-2.new.shelf) (g.S.Shelf.failed c.take_third.new.shelf) 2 so.noted more.0 more.1 more.2
+
+pub returns-clause-agrees : goal.returns-clause-agrees
+returns-clause-agrees g c =
+    agrees_three _ _ (g.S.Shelf.heard c.args.shelf.now) (g.S.Shelf.heard c.take_one.new.shelf) (g.S.Shelf.heard c.take_one-2.new.shelf) (g.S.Shelf.heard c.take_third.new.shelf) c.in_ok-domain.ensures.agrees
+    (rw (c.in_ok-domain.ensures.told, c.in_ok-domain.ensures.lacks) at c.in_ok-problem.ensures.agrees)
+    (rw (c.in_ok-problem.ensures.told, c.in_ok-problem.ensures.lacks, c.in_ok-domain.ensures.told, c.in_ok-domain.ensures.lacks) at c.in_ok-third.ensures.agrees)
 
 pub returns-clause-taken : goal.returns-clause-taken
 returns-clause-taken g c =
-    let names = files_of (seen c.args.request.now) in
-    let so = c.taking.invariant.so in
-    let place : c.len.result ≡ length c.taking.files.items = omega (arith, c.taking.files.ok) in
-    let none : slice_get names (length c.taking.files.items) ≡ None = rw place at (sym c.in_default.ensures) in
-    (so.0, so.1, all_taken _ _ (file_at (seen c.args.request.now)) _ _ _ _ _ so.2 none)
-
-pub returns-in_err-push-clause-noted : goal.returns-in_err-push-clause-noted
-returns-in_err-push-clause-noted g c =
-    noted_here _ _ (file_at (seen c.args.request.now)) _ _ _ _ _ c.taking.invariant.so.2 (g.S.Shelf.failed c.take.new.shelf) c.in-Some.name.now
-    (name_at (files_of (seen c.args.request.now)) c.len.result (length c.taking.files.items) c.in-Some.name.now (omega (arith, c.taking.files.ok)) c.in-Some.ensures) c.in_ok-file.ensures.notes
+    let k = c.in_ok-domain.ensures.kept in
+    let l = c.in_ok-problem.ensures.kept in
+    let so = two_whole c.args.third (names_of c.args.names) (g.S.Shelf.failed c.args.shelf.now) (g.S.Shelf.failed c.take_one.new.shelf) (g.S.Shelf.failed c.take_one-2.new.shelf) c.args.names.domain.now c.args.names.problem.now refl refl c.in_ok-domain.ensures.notes c.in_ok-problem.ensures.notes k.0 l.0 c.in_ok-domain.domain c.in_ok-problem.problem k.2 l.2 in
+    let m = c.in_ok-third.ensures.kept in
+    (k.0 ∷ l.0 ∷ m.0, more_heard (g.S.Shelf.heard c.args.shelf.now) (g.S.Shelf.heard c.take_one-2.new.shelf) (g.S.Shelf.heard c.take_third.new.shelf) (k.0 ∷ l.0 ∷ []) m.0 (more_heard (g.S.Shelf.heard c.args.shelf.now) (g.S.Shelf.heard c.take_one.new.shelf) (g.S.Shelf.heard c.take_one-2.new.shelf) (k.0 ∷ []) (l.0 ∷ []) k.1 l.1) m.1, so.taken m.0 (third_bytes c.in_ok-third.third) m.2)

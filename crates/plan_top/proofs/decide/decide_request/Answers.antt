@@ -6,7 +6,7 @@ use Rattle.requests.specs.Seen.{IsSized, seen, files_of}
 use Rattle.requests.specs.declared.request.Turns.{Turns}
 use Rattle.requests.specs.declared.request.Request.{Request}
 use Rattle.requests.specs.declared.request.Request.TheVariants.{Plan, Check, Ground, Order, Gen, Prove, Verify, Batch}
-use Rattle.input_files.specs.Limits.{file_at}
+use Rattle.commands.specs.Files.{file_at}
 use Rattle.input_files.specs.Files.{AreTaken, AreTakenOrLong, FaultsFrom, StopsFrom}
 use Rattle.plan_top.specs.Causes.{Comes, of_one, stopped}
 use Rattle.plan_top.specs.own.Parts.{IsBatch, AnswersBatch}

@@ -59,7 +59,7 @@ invariant_of-self-in_err-push c =
     let w = c.self.inside in
     let t = c.make_room.new.tables in
     let r = sound_again w.variables t (record t { store = c.push.new.self }) c.make_room.new.lists (literals w.trail.entries) w.quiet.items (roomy h)
-    (record { store = c.in_err-push.ensures.err; kept = refl; slots = refl; steps = refl }) in
+    (record { store = c.in_err-push.ensures.err; kept = refl; slots = refl; steps = refl; kept_below = refl }) in
     (r, rw c.in_err-push.ensures.err (paired h), c.self.invariant.2)
 
 pub invariant_of-self-in_err-push-2 : goal.invariant_of-self-in_err-push-2
@@ -135,7 +135,7 @@ invariant_of-self-2 c =
     c.take_slot.new.slots.items c.take_slot.new.lists) (told a)
     (subst (λ (ls : List ℕ). IsTaken ls c.count-number.result (2 * c.assignment-assignment.result.variables) c.assignment-assignment.result.trail
     t.slots.items l c.take_slot.new.slots.items c.take_slot.new.lists) lits c.take_slot.ensures.taken)) in
-    let t' : Tables = record { store = c.push.new.self; kept = c.push-2.new.self; slots = c.take_slot.new.slots; steps = t.steps } in
+    let t' : Tables = record { store = c.push.new.self; kept = c.push-2.new.self; slots = c.take_slot.new.slots; steps = t.steps; kept_below = t.kept_below } in
     let done : IsAddedTo w.variables t l trail w.quiet.items k c.count-number.result c.in_ok-entered.entered t' c.take_slot.new.lists c.raise.new.pending c.raise.new.quiet.items = record {
       lawful = c.requires.lawful;
       below = below h;
@@ -145,6 +145,7 @@ invariant_of-self-2 c =
       long = c.in_ok-make_room.ensures.room.in_asks;
       store = c.in_ok-push.ensures.ok;
       steps = refl;
+      kept_below = refl;
       kept = c.in_ok-push-2.ensures.items;
       taken = taken;
       calm = subst (λ (ys : List ℕ). IsQuietBelow k ys c.in_ok-entered.entered.low) (told a)

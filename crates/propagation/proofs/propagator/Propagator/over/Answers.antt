@@ -17,7 +17,7 @@ invariant_of-result c =
     let same = c.in_ok-store.ensures in
     let s = c.in_ok-spare.spare in
     let g = s.given in
-    let t : Tables = record { store = store; kept = s.kept; slots = g.slots; steps = c.in_ok-steps.steps } in
+    let t : Tables = record { store = store; kept = s.kept; slots = g.slots; steps = c.in_ok-steps.steps; kept_below = c.count-kept_below.result } in
     let few : length store ≤ 1073741824 = (let e = ap (λ (cs : List (List ℕ)). length cs) same in omega (arith, e, c.count-lawful.ensures.few, c.count-lawful.ensures.value)) in
     let fit = fit_store v f.variables store f.clauses n same c.variables-variables.ensures.small c.count-lawful.ensures.lawful c.variables-variables.ensures.below in
     let given = subst (λ (k : ℕ). AreGiven (2 * k) store (length store) g) (sym n) c.in_ok-spare.ensures.given in
@@ -28,7 +28,7 @@ invariant_of-result c =
     (subst (λ (ss : List ℕ). AreStepped f.clauses ss c.in_ok-steps.steps) c.deref.ensures.value c.in_ok-steps.ensures) in
     let index = subst (λ (k : ℕ). IsIndex k store c.in_ok-pairs.pairs) (sym n)
     (subst (λ (cs : List (List ℕ)). IsIndex f.variables cs c.in_ok-pairs.pairs) (sym same) c.in_ok-pairs.ensures) in (
-      sound_given v t g (literals c.args.trail.entries) s.quiet.items small few fit kept refl (ap (λ (w : TrailView). literals w.entries) c.requires) given quiet steps,
+      sound_given v t g (literals c.args.trail.entries) s.quiet.items small few fit kept c.count-kept_below.ensures.value refl (ap (λ (w : TrailView). literals w.entries) c.requires) given quiet steps,
       paired_given v store g c.in_ok-pairs.pairs given index,
       ap (λ (w : TrailView). w.variables) c.requires ∙ sym n,
     )

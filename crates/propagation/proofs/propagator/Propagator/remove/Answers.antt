@@ -1,4 +1,4 @@
-use Rattle.std.proofs.Common.{refl}
+use Rattle.std.proofs.Common.{arith, refl}
 use Rattle.cdcl_tables.specs.Assignment.{literals}
 use Rattle.propagation.proofs.published.Removes.{removed_sound}
 use Rattle.propagation.proofs.propagator.Propagator.remove.Goals as goal
@@ -6,4 +6,4 @@ use Rattle.propagation.proofs.propagator.Propagator.remove.Goals as goal
 pub invariant_of-self : goal.invariant_of-self
 invariant_of-self c =
     let w = c.self.inside in
-    (removed_sound w.variables w.tables _ w.lists (literals w.trail.entries) w.quiet.items c.args.number c.self.invariant.0 refl refl refl refl, c.self.invariant.1, c.self.invariant.2)
+    (removed_sound w.variables w.tables _ w.lists (literals w.trail.entries) w.quiet.items c.args.number c.self.invariant.0 refl refl refl refl (omega (arith, c.min-self-inside.ensures)) (omega (arith, c.min-self-inside.ensures)), c.self.invariant.1, c.self.invariant.2)
