@@ -6,9 +6,9 @@ use Rattle.step_laws.specs.Form.{OrderedTask}
 use Rattle.step_plans.specs.Known.{form_of}
 use Rattle.plan_tasks.specs.Stepping.{places_by}
 use Rattle.plan_endings.specs.declared.ending.File.{File}
-use Rattle.input_files.specs.Limits.{file_at}
+use Rattle.plan_endings.specs.declared.ending.File.TheVariants.{Proof}
+use Rattle.input_files.specs.Limits.{file_in}
 use Rattle.input_files.specs.Files.{AreTaken, StopsFrom}
-use Rattle.requests.specs.Seen.{grounds}
 use Rattle.plan_endings.specs.declared.ending.Ending.{Ending}
 use Rattle.judge_top.specs.Seen.{Seen, domain_of, problem_of}
 use Rattle.judge_top.specs.declared.ended.Ended.TheVariants.{Plain}
@@ -20,18 +20,18 @@ use Rattle.judge_top.specs.Answers.{TapeRun, tape_run, OnceReady, not_ready, rea
 use Rattle.judge_top.specs.declared.model.Told.{Told}
 use Rattle.judge_top.specs.declared.model.Told.TheVariants as told
 
--- all of two files, under their names
+-- all of the first two files, under their names
 wholes : List ℕ → List ℕ → List (List ℕ) → List Heard
-wholes d p (first ∷ second ∷ []) = whole d first ∷ whole p second ∷ []
+wholes d p (first ∷ second ∷ others) = whole d first ∷ whole p second ∷ []
 wholes d p files = []
 
 -- two files that were taken are these
-pub both_taken : (file : ℕ → File) (d p : List ℕ) (heard hears took : List Heard) (files : List (List ℕ)) (first second : List ℕ) → hears ≡ heard ++ took → AreTaken file 0 (d ∷ p ∷ []) took files
-    → files ≡ first ∷ second ∷ [] → hears ≡ heard ++ whole d first ∷ whole p second ∷ []
+pub both_taken : (file : ℕ → File) (d p : List ℕ) (heard hears took : List Heard) (first second : List ℕ) (others : List (List ℕ)) → hears ≡ heard ++ took → AreTaken file 0 (d ∷ p ∷ []) took (first ∷ second ∷ others)
+    → hears ≡ heard ++ whole d first ∷ whole p second ∷ []
 unfolding wholes
-both_taken file d p heard hears took files first second is taken are =
-    let two = two_taken file 0 d p took files taken in
-    let same : two.0 ∷ two.1 ∷ [] ≡ first ∷ second ∷ [] = sym two.2 ∙ are in
+both_taken file d p heard hears took first second others is taken =
+    let two = two_taken file 0 d p took (first ∷ second ∷ others) taken in
+    let same : two.0 ∷ two.1 ∷ [] ≡ first ∷ second ∷ others = sym two.2 in
     is ∙ (ap (λ (t : List Heard). heard ++ t) two.3 ∙ ap (λ (fs : List (List ℕ)). heard ++ wholes d p fs) same)
 
 -- a count that rose since rose from before
@@ -64,7 +64,7 @@ model_before first second s h before was tape le end (ready task g are is (model
 -- ---- the names of the two files, as a request gives them
 
 abbrev IsStopped : List Heard → List Heard → List (List ℕ) → List (List ℕ) → List ℕ → List ℕ → Ending → Type 0
-IsStopped heard hears failed fails d p end = (took : List Heard) × (hears ≡ heard ++ took) × StopsFrom failed fails (file_at (grounds d p)) 0 (d ∷ p ∷ []) took end
+IsStopped heard hears failed fails d p end = (took : List Heard) × (hears ≡ heard ++ took) × StopsFrom failed fails (file_in Proof) 0 (d ∷ p ∷ []) took end
 
 module _ (request : Seen) (d p : List ℕ) (domain : d ≡ domain_of request) (problem : p ≡ problem_of request) where
   pub two_named : d ∷ p ∷ [] ≡ two_of request

@@ -1,5 +1,5 @@
 -- The promises of the top call, each from what it needs alone: mostly that its ending has a cause and that its text is written.
-use Rattle.std.proofs.Common.{◌≡◌, ◌==◌, ◌≤◌, ◌+◌, ◌-◌, ℕ, length, Bool, true, false, List, [], ◌∷◌, Option, Some, None, refl, sym, ap, subst, ◌∙◌, arith, inl, inr}
+use Rattle.std.proofs.Common.{◌≡◌, ◌≤◌, ◌+◌, ℕ, Bool, true, false, List, [], ◌∷◌, Option, Some, None, refl, sym, ap, subst, ◌∙◌, arith, inl, inr}
 use Rattle.std.specs.Prelude.{Contains, ◌⊎◌}
 use Rattle.pl_io.specs.Outside.{Heard, Rose, appended}
 use Rattle.clause_base.specs.Formula.{Cnf}
@@ -14,13 +14,13 @@ use Rattle.step_plans.specs.Known.{form_of, formula_at}
 use Rattle.lrat_judge.specs.Verdicts.{verdict_ended, verdict_of, has_empty}
 use Rattle.lrat_judge.specs.declared.verdict.Verdict.{Verdict}
 use Rattle.lrat_judge.specs.declared.verdict.Verdict.TheVariants as verdicts
-use Rattle.requests.specs.Seen.{grounds}
 use Rattle.requests.specs.declared.request.Stepping.{Stepping}
 use Rattle.plan_endings.specs.Ending as plain
 use Rattle.plan_endings.specs.declared.ending.File.{File}
+use Rattle.plan_endings.specs.declared.ending.File.TheVariants.{Proof}
 use Rattle.plan_endings.specs.declared.ending.Ending.{Ending}
 use Rattle.plan_endings.specs.declared.ending.Ending.TheVariants.{Listing}
-use Rattle.input_files.specs.Limits.{file_at}
+use Rattle.input_files.specs.Limits.{file_in}
 use Rattle.input_files.specs.Files.{StopsFrom, RoseAmong}
 use Rattle.plan_tasks.specs.Stepping.{places_by}
 use Rattle.plan_tasks.specs.Tasks.{AreTask, IsReady, StopsTask, refused, past, RefusesTask, domain_tree, problem_tree, no_task, refusal_of}
@@ -117,11 +117,11 @@ ended_apart verdicts.NotEmpty e = cc
 ended_apart (verdicts.TooLong line) e = cc
 ended_apart (verdicts.Syntax at) e = cc
 
-never_more : (formula : Cnf) (text : List ℕ) → verdict_of formula text ≡ verdicts.More → ⊥
+never_more : (cnf : Cnf) (text : List ℕ) → verdict_of cnf text ≡ verdicts.More → ⊥
 unfolding verdict_of
-never_more formula text e = by (has_empty formula.clauses) refl e
+never_more cnf text e = by (has_empty cnf.clauses) refl e
   where
-    by : (b : Bool) → has_empty formula.clauses ≡ b → verdict_of formula text ≡ verdicts.More → ⊥
+    by : (b : Bool) → has_empty cnf.clauses ≡ b → verdict_of cnf text ≡ verdicts.More → ⊥
     by true f g = let never : verdicts.Refuted 0 ≡ verdicts.More = rw f at g in cc
     by false f g = ended_apart _ (rw f at g)
 
@@ -143,7 +143,7 @@ IsLow names failed fails faults rises end = ((status_of end ≡ 5) × (RoseAmong
 module _ (heard hears : List Heard) (failed fails : List (List ℕ)) (tape : TapeRun) where
   stop_low : (d p : List ℕ) (end : Ended) → StopsAt heard hears failed fails tape d p end → IsLow (d ∷ p ∷ []) failed fails tape.faults tape.rises end
   unfolding IsLow
-  stop_low d p end h = elim (files_between failed fails (file_at (grounds d p)) 0 (d ∷ p ∷ []) h.1 h.0 h.3) [
+  stop_low d p end h = elim (files_between failed fails (file_in Proof) 0 (d ∷ p ∷ []) h.1 h.0 h.3) [
     | inl k ↦ inl (ap status_of h.4 ∙ k.0, inl k.1)
     | inr four ↦ inr (let is = ap status_of h.4 in omega (arith, is, four))
   ]
@@ -234,7 +234,7 @@ module _ (heard hears : List Heard) (failed fails : List (List ℕ)) (tape : Tap
       subst (λ (r : Seen). ComesFor heard hears failed fails tape r end) same h
 
   low_only : {A : Type 0} (n : ℕ) (end : Ended) → n ≤ 3 → status_of end ≡ n → (d p : List ℕ) → StopsAt heard hears failed fails tape d p end → A
-  low_only n end low at d p h = elim (files_between failed fails (file_at (grounds d p)) 0 (d ∷ p ∷ []) h.1 h.0 h.3) [
+  low_only n end low at d p h = elim (files_between failed fails (file_in Proof) 0 (d ∷ p ∷ []) h.1 h.0 h.3) [
     | inl k ↦ absurd (let five = ap status_of h.4 ∙ k.0 in omega (arith, five, at, low))
     | inr four ↦ absurd (let is = ap status_of h.4 ∙ four in omega (arith, is, at, low))
   ]
@@ -303,8 +303,8 @@ module _ (heard hears : List Heard) (failed fails : List (List ℕ)) (tape : Tap
     verdict_told opened end at printed task g is (too_large plain_end over e) = not_limit n how horizon g end low at plain_end over e
     verdict_told opened end at printed task g is (unread plain_end un e) = not_unread n end low at plain_end un e
     verdict_told opened end at printed task g is (judged verdict e so none) =
-        let formula = formula_at (places_by how) (form_of g.task so.clauses so.components) horizon in
-        let ended = λ (more : verdict ≡ verdicts.More). never_more formula tape.given.bytes (sym (so.holds.is tape.given.bytes (itself tape.given)) ∙ more) in
+        let cnf = formula_at (places_by how) (form_of g.task so.clauses so.components) horizon in
+        let ended = λ (more : verdict ≡ verdicts.More). never_more cnf tape.given.bytes (sym (so.holds.is tape.given.bytes (itself tape.given)) ∙ more) in
         let told = gives verdict ended (sym (ap status_of e) ∙ at) (printed ∙ ap (λ (end : Ended). appended before (text_of end)) e) in (
           record { opened = opened; sound = so.holds.sound },
           claims.of_grounded laws task g is so.clauses so.components so.ordered (λ h clauses components. (file : List ℕ) → IsFileOf tape.given file → claim (verdict_of (formula_at (places_by how) (form_of h.task clauses components) horizon) file))

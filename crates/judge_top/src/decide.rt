@@ -12,9 +12,9 @@ ghost use Rattle.horizon_rates.specs.Limits.{last_horizon};
 use crate::answer::{answer_formula, answer_judge, answer_model};
 use crate::verdict::open;
 use crate::{Ended, Request};
-use input_files::parts::two_of;
-use input_files::take::take_all;
-use pl_io::{Bytes, Shelf, TakeError, Tape};
+use input_files::take::{Names, take_all};
+use pl_io::{Shelf, TakeError, Tape};
+use plan_endings::File;
 use plan_endings::stop::Stop;
 use requests::{Stepping, read_words};
 use std::alloc::Global;
@@ -60,12 +60,14 @@ fn decide_request<H: Threads + Sync, S: Shelf, T: Tape>(
     ensures noted { NotesAmong (two_of (seen request.now)) (S.failed shelf.old) (S.failed shelf.new) }
     ensures tape_faults { T.faults tape.old ≤ T.faults tape.new }
 {
-    let both = requests::Request::Ground {
+    let names = Names {
         domain: request.domain(),
         problem: request.problem(),
+        third: None,
     };
-    let files = take_all::<Bytes, S>(alloc, &both, shelf)?;
-    let (first, second) = two_of(&both, files.as_slice());
+    let files = take_all(alloc, names, File::Proof, shelf)?;
+    let first = files.domain.as_slice();
+    let second = files.problem.as_slice();
     answer(rt, alloc, request, first, second, tape)
 }
 

@@ -1,4 +1,3 @@
-use Rattle.std.proofs.Common.{Some, None, ap}
 use Rattle.sat_text.specs.Values.{NoText, Values}
 use Rattle.judge_top.proofs.Given.{read_at_end}
 use Rattle.judge_top.proofs.model.finished.Goals as goal

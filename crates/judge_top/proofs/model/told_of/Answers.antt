@@ -1,6 +1,6 @@
 use Rattle.std.proofs.Common.{◌∙◌, ℕ, List, Bool, sym, ap, subst}
 use Rattle.clause_base.specs.Formula.{Cnf}
-use Rattle.sat_text.specs.Values.{Values}
+use Rattle.sat_text.specs.Values.{Values, NoText}
 use Rattle.sat_text.proofs.published.ValueReading.{values_are}
 use Rattle.judge_top.specs.Answers.{tape_run, IsReadAs}
 use Rattle.judge_top.proofs.Given.{itself}
@@ -15,7 +15,7 @@ told_values-requires-clause-long g c =
 pub returns-in-NoText-clause-told : goal.returns-in-NoText-clause-told
 returns-in-NoText-clause-told g c =
     let given = g.T.Tape.given c.read_given.new.tape in
-    subst (λ (n : ℕ). IsReadAs n given _) (c.variables.ensures.value ∙ ap (λ (x : Cnf). x.variables) c.in_ok-formula.ensures.formula) (rw c.in-NoText.is at c.in_ok-read_given.ensures.given)
+    subst (λ (n : ℕ). IsReadAs n given (NoText c.in-NoText.at)) (c.variables.ensures.value ∙ ap (λ (x : Cnf). x.variables) c.in_ok-formula.ensures.formula) (rw c.in-NoText.is at c.in_ok-read_given.ensures.given)
 
 pub returns-clause-told : goal.returns-clause-told
 returns-clause-told g c =
