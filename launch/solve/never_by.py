@@ -8,7 +8,7 @@ import planfile
 import rooms
 import solve
 import solvers
-from call import Call, block_signals, put_out, say
+from call import Call, block_signals, put_out, say, tell_unread
 from driver import Driver
 from known import Wish
 from nevers import Never, NeverSearch
@@ -66,7 +66,7 @@ def run(root, programs, words):
     except solvers.NoSolver as error:
         return refuse(70, str(error))
     except rooms.Unread as error:
-        return refuse(5, str(error))
+        return tell_unread(root, error)
     except OSError as error:
         return refuse(6, f"{error.filename or ''}: {error.strerror}")
     driver = Driver(call, made, solve.tell_progress if sys.stderr.isatty() else None)

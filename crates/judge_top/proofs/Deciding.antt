@@ -50,7 +50,7 @@ judged_before first second s h before was tape le end (ready task g are is (judg
 
 told_before : (s : Stepping) (h before : ℕ) (was : Given) (tape : TapeRun) → before ≤ tape.faults → (said : Told) (form : OrderedTask) → IsTold (places_by s) h tape said form → IsTold (places_by s) h (since before was tape) said form
 told_before s h before was tape le told.Unread form k = rose_before before tape.faults tape.rises le k
-told_before s h before was tape le (told.NoText at) form k = k
+told_before s h before was tape le (told.Refused refusal) form k = k
 told_before s h before was tape le (told.NoModel clause) form k = k
 told_before s h before was tape le (told.Plan steps) form k = k
 

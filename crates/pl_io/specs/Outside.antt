@@ -1,6 +1,6 @@
 -- What the calls of a shelf and of a sink leave behind.
 use Rattle.std.specs.Prelude.{◌≡◌, ◌<◌, ◌≤◌, ◌⊎◌, ◌+◌, ◌-◌, ◌^◌, ℕ, List, [], ◌∷◌, ◌++◌, length, take, min, count_by}
-use Rattle.std.specs.Prelude.{Bool, true, false, IsTrue, Option, IfSome, option_map, Result, OnErr}
+use Rattle.std.specs.Prelude.{Bool, true, false, IsTrue, Option, Some, None, IfSome, option_map, Result, OnErr}
 use Rattle.std.specs.List.{AllByRecursion}
 use Rattle.std.specs.Str.{bytes_eq}
 
