@@ -110,7 +110,7 @@ class Abc(Search):
     """Clauses, by the property-directed reachability of ABC."""
 
     def search(self, room):
-        system = yield from self.ask(self.call.judge_of_never, "system", "--format", "blif")
+        system = yield from self.ask(self.call.judge_of_never, "system")
         zeros = (yield from self.script("invariants", "zeros", system)) if system else None
         if zeros is None:
             return None
@@ -141,7 +141,7 @@ class Other(Search):
 
     def search(self, room):
         form = self.call.given["format"]
-        system = yield from self.ask(self.call.judge_of_never, "system", "--format", form)
+        system = yield from self.ask(self.call.judge_of_never, "system", *([] if form == "blif" else ["--format", form]))
         if system is None:
             return None
         with open(system, "rb") as file:
