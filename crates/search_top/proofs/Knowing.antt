@@ -13,7 +13,7 @@ use Rattle.never_check.specs.declared.excluded.Exclusion.{Exclusion}
 use Rattle.never_check.specs.declared.excluded.Exclusion.TheVariants as by
 use Rattle.gt_core.proofs.published.Literals.{in_among}
 use Rattle.grounding_defs.specs.Grounded.{Grounded, IsGrounded}
-use Rattle.input_files.proofs.published.Taking.{drop_at}
+use Rattle.plan_tasks.proofs.published.Taking.{drop_at}
 use Rattle.pd_model.specs.State.{same_atom, is_in as is_listed}
 use Rattle.pd_model.specs.declared.atoms.Atom.{Atom}
 use Rattle.pd_model.specs.declared.parts.Parts.{Parts}
