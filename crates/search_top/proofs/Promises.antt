@@ -13,9 +13,9 @@ use Rattle.state_search.specs.declared.answer.End.{End}
 use Rattle.state_search.specs.declared.answer.End.TheVariants as ends
 use Rattle.plan_endings.specs.declared.ending.File.TheVariants.{Proof}
 use Rattle.plan_endings.proofs.published.Statuses.{six_seven, six_seven_eight}
-use Rattle.input_files.specs.Limits.{file_in}
-use Rattle.input_files.specs.Files.{RoseAmong}
-use Rattle.input_files.proofs.published.Hearing.{two_taken}
+use Rattle.plan_tasks.specs.Limits.{file_in}
+use Rattle.plan_tasks.specs.Files.{RoseAmong}
+use Rattle.plan_tasks.proofs.published.Hearing.{two_taken}
 use Rattle.plan_tasks.specs.Tasks.{AreTask, IsReady}
 use Rattle.plan_tasks.specs.Claims.{Printed, OfFiles}
 use Rattle.plan_tasks.proofs.published.Printing.{printed_is}

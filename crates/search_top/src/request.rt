@@ -1,9 +1,9 @@
 //! What words can ask for.
 ghost use Rattle.std.specs.Prelude.{◌≡◌};
-ghost use Rattle.input_files.specs.Named.{names_of as names_in};
+ghost use Rattle.plan_tasks.specs.Named.{names_of as names_in};
 ghost use Rattle.search_top.specs.Seen.{seen, names_of};
 
-use input_files::take::Names;
+use plan_tasks::take::Names;
 
 /// How a walk through the states goes.
 #[derive(Clone, Copy, PartialEq, Eq)]
