@@ -9,7 +9,7 @@ use Rattle.std.proofs.lemmas.Nat.Bits.{bit_at-suc, bit_at_lowest}
 use mir.Val.{bool_byte}
 use Rattle.bit_sets.specs.Rows.{row_has, word_has}
 use Rattle.bit_sets.proofs.published.WordLaw.{zero_has}
-use Rattle.state_store.specs.own.Packed.{number_of, packed, unpacked, width_of, IsPacked}
+use Rattle.state_store.specs.Packed.{number_of, packed, unpacked, width_of, IsPacked}
 
 number_less : (values : List Bool) → number_of values < 2 ^ length values
 number_less [] = omega arith
