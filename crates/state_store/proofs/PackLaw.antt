@@ -49,7 +49,7 @@ length-packed zero values = refl
 length-packed (suc n) values = ap suc (length-packed n (drop 64 values))
 
 -- the bits of a row are the truth values
-packed_has : (n : ℕ) (values : List Bool) (k : ℕ) → k < 64 * n → row_has (packed n values) k ≡ get_or values k false
+pub packed_has : (n : ℕ) (values : List Bool) (k : ℕ) → k < 64 * n → row_has (packed n values) k ≡ get_or values k false
 packed_has zero values k lt = absurd (omega (arith, lt))
 packed_has (suc n) values k lt = by (cases_lt k 64) (packed_has n (drop 64 values))
   where
