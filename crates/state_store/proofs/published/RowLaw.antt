@@ -11,7 +11,8 @@ use Rattle.std.proofs.lemmas.Nat.Bits.{bit_at-lt, bit_at-zero, bit_at_cat_high, 
 use Rattle.bit_sets.specs.Rows.{row_has, word_has}
 use Rattle.bit_sets.proofs.published.WordLaw.{zero_has}
 use Rattle.state_store.specs.Packed.{number_of, packed, unpacked, width_of, IsPacked}
-use Rattle.state_store.proofs.PackLaw.{length-packed, number_small, packed_has, width_holds}
+use Rattle.state_store.proofs.PackLaw.{length-packed, number_small, packed_has}
+pub use Rattle.state_store.proofs.PackLaw.{width_holds}
 
 -- each word is one of 64 bits
 abbrev pub AreWords : List ℕ → Type 0

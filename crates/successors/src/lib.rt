@@ -1,0 +1,7 @@
+//! What leads from one state to others, where states are rows of words: which actions can run, and the state after one.
+//!
+//! `row` has literals in a row, `next` the state after an action and whether a state is a goal.
+#![tactic(auto)]
+
+pub mod next;
+pub mod row;
