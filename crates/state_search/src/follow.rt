@@ -31,10 +31,10 @@ pub struct Offer {
 /// Says where a walk goes on.
 pub trait Proposer {
     /// Takes note of a state that was entered under this number.
-    fn entered(&mut self, task: &Task, number: u32, row: &[u64]) -> Result<(), Memory>;
+    fn entered(&mut self, task: &Task, trie: &Trie, number: u32, row: &[u64]) -> Result<(), Memory>;
 
     /// The state and the action that come next; none where there is nothing more to propose.
-    fn next(&mut self, store: &Store) -> Option<Offer>;
+    fn next(&mut self, trie: &Trie, store: &Store) -> Option<Offer>;
 }
 
 /// Tries what was proposed.
@@ -84,7 +84,7 @@ fn follow_all<P: Proposer>(
     ensures after { length after.new.items ≡ length after.old.items }
 {
     for _turn in 0..u64::MAX {
-        let Some(offer) = proposer.next(store) else {
+        let Some(offer) = proposer.next(trie, store) else {
             break;
         };
         match offered(task, store, before, after, offer) {
@@ -92,7 +92,7 @@ fn follow_all<P: Proposer>(
                 if is_goal(task, after) {
                     return plan_of(alloc, task, store);
                 }
-                proposer.entered(task, store.len() - 1, after)?;
+                proposer.entered(task, trie, store.len() - 1, after)?;
             }
             Proposed::Full => return Ok(End::Unfinished),
             Proposed::Unable => {}
@@ -130,7 +130,7 @@ pub fn follow_in<P: Proposer>(
     if is_goal_at_once(task, task.init()) {
         return Ok(answer_of(task, &room.store, End::Plan(Actions::new(alloc))));
     }
-    proposer.entered(task, 0, &room.first)?;
+    proposer.entered(task, &room.trie, 0, &room.first)?;
     let end = follow_all(
         alloc,
         task,

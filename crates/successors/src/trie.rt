@@ -8,6 +8,7 @@ ghost use Rattle.successors.specs.Trie.{IsTrie};
 
 use crate::build::{Growing, grown};
 use crate::check::is_trie;
+use crate::row::tells;
 use containers::memory::Memory;
 use gt_core::task::Task;
 use std::alloc::Global;
@@ -95,6 +96,50 @@ impl Trie {
         ensures { result ≡ slice_index self.now.acts place }
     {
         self.acts[place]
+    }
+}
+
+impl Trie {
+    /// Lists the actions between two places.
+    fn add(&self, from: usize, to: usize, into: &mut Vec<u32>) -> Result<(), Memory> {
+        for place in from..to {
+            if let Some(act) = self.acts.get(place) {
+                into.push(*act)?;
+            }
+        }
+        Ok(())
+    }
+
+    /// The node that comes after one in the state of a row; past the last one there is none.
+    #[inline(always)]
+    fn after(&self, node: usize, row: &[u64]) -> Option<usize> {
+        let lit = *self.lits.get(node)?;
+        if tells(row, lit) {
+            return Some(node);
+        }
+        Some(*self.skips.get(node)? as usize)
+    }
+
+    /// Lists the actions that can run in the state of a row, for one who proposes them. No clause says that these are all.
+    pub fn list(&self, row: &[u64], into: &mut Vec<u32>) -> Result<(), Memory> {
+        into.clear();
+        if let Some(first) = self.froms.first() {
+            self.add(0, *first as usize, into)?;
+        }
+        let mut node = 0usize;
+        for _turn in 0..self.lits.len() {
+            let Some(next) = self.after(node, row) else {
+                break;
+            };
+            if next == node
+                && let Some(from) = self.froms.get(node)
+                && let Some(to) = self.froms.get(node.saturating_add(1))
+            {
+                self.add(*from as usize, *to as usize, into)?;
+            }
+            node = next.max(node.saturating_add(1));
+        }
+        Ok(())
     }
 }
 
