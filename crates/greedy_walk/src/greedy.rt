@@ -9,6 +9,7 @@ use containers::memory::Memory;
 use gt_core::task::Task;
 use novelty::proposer::Novelty;
 use relaxed_plans::proposer::RelaxedPlans;
+use relaxed_plans::reached::Reached;
 use state_search::answer::{Answer, End};
 use state_search::follow::follow_in;
 use state_search::room::Room;
@@ -28,6 +29,7 @@ const NOVELTY: u32 = 16;
 struct Leads {
     novelty: Novelty,
     relaxed_plans: RelaxedPlans,
+    reached: Reached,
 }
 
 /// Who leads a walk.
@@ -35,6 +37,7 @@ struct Leads {
 enum Lead {
     Novelty,
     RelaxedPlans,
+    Reached,
 }
 
 /// A walk that enters so many states at most.
@@ -61,6 +64,10 @@ fn walk(
         Lead::RelaxedPlans => {
             leads.relaxed_plans.clear();
             follow_in(alloc, task, room, share, &mut leads.relaxed_plans)
+        }
+        Lead::Reached => {
+            leads.reached.clear();
+            follow_in(alloc, task, room, share, &mut leads.reached)
         }
     }
 }
@@ -98,7 +105,11 @@ fn round(
     if is_settled(&answer) {
         return Ok(answer);
     }
-    walk(alloc, task, room, leads, Lead::RelaxedPlans, share)
+    let answer = walk(alloc, task, room, leads, Lead::RelaxedPlans, share)?;
+    if is_settled(&answer) {
+        return Ok(answer);
+    }
+    walk(alloc, task, room, leads, Lead::Reached, share)
 }
 
 /// Rounds until one is settled, the last one with all states.
@@ -138,6 +149,7 @@ pub fn greedy(alloc: Global, task: &Task, most: u32) -> Result<Answer, Memory>
     let mut leads = Leads {
         novelty: Novelty::new(alloc, task, most)?,
         relaxed_plans: RelaxedPlans::new(alloc, task, most)?,
+        reached: Reached::new(alloc, task, most)?,
     };
     let answer = rounds(alloc, task, &mut room, &mut leads, most)?;
     let states = answer.states;

@@ -15,8 +15,8 @@ const MOST: u32 = 100_000;
 const NONE: u32 = 4_294_967_295;
 
 /// For each literal its cost, the operator that makes it at this cost, and whether it is one of the goal; for each operator how many
-/// literals it needs, how many of them have no cost yet, and the sum of the others; the literals by cost, in chains; and which are in
-/// the relaxed plan. All memory is taken when it is made.
+/// literals it needs, how many of them have no cost yet, and the sum of the others; the literals by cost, in chains; which are in the
+/// relaxed plan, and which of these its actions make. All memory is taken when it is made.
 #[derive(Drop)]
 pub struct Costs {
     cost: Vec<u32>,
@@ -31,6 +31,7 @@ pub struct Costs {
     nexts: Vec<u32>,
     marked: Vec<bool>,
     list: Vec<u32>,
+    made: Vec<u32>,
 }
 
 /// The value at a place, or 0.
@@ -117,6 +118,7 @@ impl Costs {
             nexts: Vec::with_capacity(alloc, chained)?,
             marked: vec![in alloc; false; literals]?,
             list: Vec::with_capacity(alloc, literals)?,
+            made: Vec::with_capacity(alloc, literals)?,
         })
     }
 
@@ -251,15 +253,16 @@ impl Costs {
         Ok(())
     }
 
-    /// After `compute` with a cost: the literals of a relaxed plan.
-    pub fn literals(&self) -> &[u32] {
-        &self.list
+    /// After `plan`: the literals that the actions of the relaxed plan make.
+    pub fn made(&self) -> &[u32] {
+        &self.made
     }
 
     /// After `compute` with a cost: marks the actions of a relaxed plan.
     pub fn plan(&mut self, all: &Relaxation, used: &mut [bool]) -> Result<(), Memory> {
         unmark(&mut self.marked);
         self.list.clear();
+        self.made.clear();
         for lit in &all.goal {
             self.mark(*lit)?;
         }
@@ -272,6 +275,7 @@ impl Costs {
             if at(&self.cost, lit) == 0 || op >= all.needs.len() {
                 continue;
             }
+            self.made.push(at(&self.list, place))?;
             if let Some(mark) = used.get_mut(at(&all.acts, op) as usize) {
                 *mark = true;
             }
