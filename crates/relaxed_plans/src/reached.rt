@@ -57,11 +57,8 @@ pub struct Reached {
 
 /// A bit of two words.
 fn bit_of(place: usize) -> (u64, u64) {
-    if place < 64 {
-        (1u64 << (place as u32 % 64), 0)
-    } else {
-        (0, 1u64 << (place as u32 % 64))
-    }
+    let bit = 1u64 << (place % 64) as u32;
+    if place < 64 { (bit, 0) } else { (0, bit) }
 }
 
 /// How many bits there are.
