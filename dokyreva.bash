@@ -1,4 +1,4 @@
-# Completion for bash: . dokyreva.bash, then the Tab key after ./dokyreva, ./plan, ./plan-by, ./spread or ./plan-view, or after
+# Completion for bash: . dokyreva.bash, then the Tab key after ./dokyreva, ./plan, ./plan-by, ./never-by, ./spread or ./plan-view, or after
 # these names without their folder. What is completed stands in launch/help.
 
 _dokyreva_help=$(readlink -f -- "${BASH_SOURCE[0]}")
@@ -62,6 +62,8 @@ _dokyreva() {
         _dokyreva_words corridor gripper
     elif [ "$command" = plan-by ] && [ "$place" = 1 ]; then
         _dokyreva_words cadical kissat drat:
+    elif [ "$command" = never-by ] && [ "$place" = 1 ]; then
+        _dokyreva_words glpk abc never-search all
     elif [ "$values" = FOLDER ]; then
         mapfile -t COMPREPLY < <(compgen -d -- "$word")
     elif [[ $before == --* && $before != --help && $values != FILE && $values != - ]]; then
@@ -73,4 +75,4 @@ _dokyreva() {
     fi
 }
 
-complete -o filenames -F _dokyreva dokyreva ./dokyreva plan ./plan plan-by ./plan-by spread ./spread plan-view ./plan-view
+complete -o filenames -F _dokyreva dokyreva ./dokyreva plan ./plan plan-by ./plan-by never-by ./never-by spread ./spread plan-view ./plan-view

@@ -1,5 +1,5 @@
 # shellcheck shell=bash disable=SC2034,SC2154 # the parts set variables for one another
-# Finds the programs for launch/solve, and runs it. To be read by ./solve and ./plan-by, which have set root.
+# Finds the programs for launch/solve, and runs it. To be read by ./solve, ./plan-by and ./never-by, which have set root.
 . "$root/launch/places.bash"
 use programs commands
 
@@ -21,10 +21,11 @@ run_driver() {
 }
 
 # take_programs TOOL: sets planner, judge, searcher and never to programs, or to nothing where there is none. ./solve needs the
-# planner, ./plan-by the judge.
+# planner, ./plan-by the judge; ./never-by needs never, and says itself where there is none.
 take_programs() {
     local name wanted=plan_prog
     [ "$1" != plan-by ] || wanted=judge_prog
+    [ "$1" != never-by ] || wanted=
     planner=${SOLVE_PLANNER-$(program_of plan_prog "$wanted")} || exit
     judge=${SOLVE_JUDGE-$(program_of judge_prog "$wanted")} || exit
     searcher=${SOLVE_SEARCH-$(program_for search)}

@@ -59,9 +59,11 @@ class File:
 
     def __init__(self, path):
         self.path = path
-        self.text = pathlib.Path(path).read_bytes().decode("latin-1")
-        self.starts = line_starts(self.text)
-        self.tree = read_tree(self.text)
+        self.replace(pathlib.Path(path).read_bytes().decode("latin-1"))
+
+    def replace(self, text):
+        """Takes this text for the file's."""
+        self.text, self.starts, self.tree = text, line_starts(text), read_tree(text)
 
     def place(self, at):
         """`path:line:column` of an offset."""

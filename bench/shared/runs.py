@@ -59,6 +59,10 @@ def judge(name=None):
     """The same of the program that judges."""
     return planner(name, "judge_prog")
 
+def searcher(name=None):
+    """The same of the program that walks through states."""
+    return planner(name, "search_prog")
+
 def launched():
     """The variables for the C library that the launcher sets for the program."""
     line = re.search(r"export (MALLOC_.*)", (CRATES.parent / "launch/ready.sh").read_text())

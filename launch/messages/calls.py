@@ -16,6 +16,10 @@ LIMIT = re.compile(r"; limit (tuples|facts|actions|effects) ([0-9]+)\Z")
 LINE = re.compile(r"; limit line ([0-9]+)\Z")
 LITERALS = re.compile(r"; limit literals ([0-9]+) horizon ([0-9]+)\Z")
 FILE_BYTES = {"proof": 16777216}
+LINES = {
+    "judge": "the proof has more than the 16777216 bytes that a line may have: is it a proof in text (CaDiCaL writes one with --no-binary)?",
+    "model": "the model has more than the 268435456 bytes that a line may have: is it what a solver printed?",
+}
 LITERALS_OF = {"formula": 16000000, "judge": 16000000, "model": 16000000}
 THIRD = {"check": (2, "plan"), "verify": (2, "proof"), "judge": (3, "proof"), "model": (3, "model")}
 BY_HORIZON = ("plan", "plan-all", "batch", "gen")
@@ -141,8 +145,7 @@ def tell_limit(line, command):
         return True
     found = LINE.match(line)
     if found:
-        launcher_says(f"limit: line {found[1]} of the proof has more than the 16777216 bytes that a line may have: is it a proof "
-                      "in text (CaDiCaL writes one with --no-binary)?")
+        launcher_says(f"limit: line {found[1]} of {LINES[command]}")
         return True
     found = LIMIT.match(line)
     if found:

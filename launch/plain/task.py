@@ -41,14 +41,14 @@ class Task:
     """What both files say. `told` has a line for each thing that is to be rewritten."""
 
     def __init__(self, domain, problem):
-        self.domain, self.problem, self.told = domain, problem, []
+        self.domain, self.problem, self.told, self.found = domain, problem, [], {}
         for file in (domain, problem):
             for section in file.tree.items[2:]:
                 if section.head() in LEFT_OUT:
                     raise Refused(file, section, f"{LEFT_OUT[section.head()]} are not rewritten")
         self.read_types()
-        self.constants = self.read_objects(domain, ":constants")
-        self.objects = {**self.constants, **self.read_objects(problem, ":objects")}
+        self.constants = self.read_objects(domain, ":constants", {})
+        self.objects = self.read_objects(problem, ":objects", self.constants)
         self.predicates = {it.head(): typed(it.items[1:]) for section in domain.sections(":predicates") for it in section.items[1:]}
         for section in domain.sections(":predicates"):
             for it in section.items[1:]:
@@ -81,12 +81,14 @@ class Task:
                 seen.add(word)
                 self.above.setdefault(word, set()).update(kinds)
 
-    def read_objects(self, file, head):
-        """Objects with their types."""
-        found = {}
+    def read_objects(self, file, head, others):
+        """Objects with their types, and the other ones: one that is declared twice is of all types that are told of it."""
+        found = {word: set(kinds) for word, kinds in others.items()}
         for section in file.sections(head):
             self.note_either(file, section)
             for word, kinds in typed(section.items[1:]):
+                if word in found:
+                    self.note(file, section, f"object {word} is declared twice")
                 found.setdefault(word, set()).update(kinds)
         return found
 
@@ -102,7 +104,9 @@ class Task:
 
     def fitting(self, kinds):
         """The objects that are of one of these types."""
-        return [name for name, its in self.objects.items() if any(kinds & self.kinds_above(it) for it in its)]
+        if kinds not in self.found:
+            self.found[kinds] = [name for name, its in self.objects.items() if any(kinds & self.kinds_above(it) for it in its)]
+        return self.found[kinds]
 
     def read_action(self, section):
         """One action."""

@@ -41,6 +41,7 @@ def texts(task, it):
     objects = [pair for pair in named if pair not in constants]
     predicates = [f"({name}{''.join(f' ?x{n}' for n in range(len(pairs)))})" for name, pairs in task.predicates.items()]
     predicates += [f"({name} ?x)" for name in it.guards]
+    predicates += [f"({name}{''.join(f' {variable}' for variable, _ in free)})" for _, names, free in it.deletes for name in names]
     if it.goal == [(True, (rewrite.REACHED,))]:
         predicates.append(f"({rewrite.REACHED})")
     domain = [f"(define (domain {task.domain.name().word})\n",

@@ -1,14 +1,24 @@
-"""The driver of ./solve and ./plan-by: python3 -I launch/solve TOOL ROOT NAME=PROGRAM.. -- WORD.."""
+"""The driver of ./solve, ./plan-by and ./never-by: python3 -I launch/solve TOOL ROOT NAME=PROGRAM.. -- WORD..
+
+It runs itself with the words `weights` or `invariants` for what reads and writes long texts."""
 import sys
 
 
 def main():
     """Runs the tool that is named first; its status is that of the call."""
+    if sys.argv[1] == "weights":
+        import weights
+        return weights.main(sys.argv[2:])
+    if sys.argv[1] == "invariants":
+        import invariants
+        return invariants.main(sys.argv[2:])
     tool, root, *rest = sys.argv[1:]
     at = rest.index("--")
     programs = dict(it.split("=", 1) for it in rest[:at] if not it.endswith("="))
     if tool == "solve":
         import solve as it
+    elif tool == "never-by":
+        import never_by as it
     else:
         import plan_by as it
     return it.run(root, programs, rest[at + 1:])

@@ -29,12 +29,12 @@ class Call:
         self.path, self.processes = os.environ.get("PATH", os.defpath), PROCESSES
         self.solver_name, self.planner_words = None, None
         self.rooms, self.disk, self.given, self.signal, self.is_short = None, None, given, None, False
-        self.plain = None
+        self.plain, self.certificate = None, None
 
     def take_files(self, domain, problem):
         """Reads both files once, and puts what all programs read where no outside program is told of."""
         self.paths = domain, problem
-        self.domain_text, self.problem_text = rooms.read_input(domain), rooms.read_input(problem)
+        self.domain_text, self.problem_text = rooms.read_input(domain, "domain"), rooms.read_input(problem, "problem")
 
     def note(self, number, _):
         """A signal ends the call, with what is known."""
@@ -66,6 +66,14 @@ class Call:
         sys.path.append(os.path.join(self.root, "launch"))
         from messages.calls import tell_line  # (it takes longer to read than a short call)
         tell_line(line, dict(zip(("domain", "problem"), self.paths)), "plan")
+
+
+def tell_unread(root, error):
+    """Why a file was not read; the status that says so."""
+    sys.path.append(os.path.join(root, "launch"))
+    from messages.calls import tell_unread as tell
+    tell(error.path, error.which)
+    return 5
 
 
 def say(tool, *words):

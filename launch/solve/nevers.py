@@ -15,6 +15,7 @@ def judge(engine, path=None):
     line = first_line(came.output)
     if came.status == 0 and NEVER.match(line):
         call.known.none(line, "never")
+        call.certificate = path
         return True, line
     if came.status in (3, 5) and not path:
         call.refuse(came.status, line)

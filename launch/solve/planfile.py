@@ -1,9 +1,10 @@
-"""The file of --plan-file: which may be replaced, and how a plan is put there."""
+"""The file of --plan-file or --certificate: which may be replaced, and how a plan or a certificate is put there."""
 import os
 import re
 import stat
 
 CALLS = re.compile(rb"(?:[ \t\r\n\f\v]|;[^\n]*(?:\n|\Z)|\([^();]*\))*\Z")
+CERTIFICATE = re.compile(rb"(?:c [^\n]*\n|\n)*(?:clauses (?:forward|backward)|weights)\n(?:[-0-9 ]*\n)*\Z")
 
 
 class Refused(Exception):
@@ -13,12 +14,14 @@ class Refused(Exception):
 class PlanFile:
     """A file that a plan is put into, or none."""
 
+    option, form, what = "--plan-file", CALLS, "plan file (calls and comments)"
+
     def __init__(self, path, inputs):
         self.path = None
         if path is None:
             return
         if not path:
-            raise Refused("--plan-file takes the name of a file")
+            raise Refused(f"{self.option} takes the name of a file")
         self.path = os.path.realpath(path)
         self.look(path, inputs)
 
@@ -41,11 +44,11 @@ class PlanFile:
         for it in inputs:
             if same_file(it, there):
                 raise Refused(f"{path} is one of the files that are read")
-        if not is_plan(self.path):
-            raise Refused(f"{path} is no plan file (calls and comments), and is not replaced")
+        if not has_form(self.path, self.form):
+            raise Refused(f"{path} is no {self.what}, and is not replaced")
 
     def begin(self):
-        """A plan of an earlier call goes, and it is seen that a new one can be put there."""
+        """That of an earlier call goes, and it is seen that a new one can be put there."""
         if self.path:
             self.fresh()[1].close()
             os.unlink(self.temporary)
@@ -62,20 +65,26 @@ class PlanFile:
             except FileExistsError:
                 continue
 
-    def put(self, calls):
-        """Puts the calls there, whole or not at all."""
+    def put(self, lines):
+        """Puts lines there, whole or not at all."""
         if not self.path:
             return
         temporary, file = self.fresh()
         try:
             with file:
-                file.write("".join(f"{it}\n" for it in calls).encode("latin-1"))
+                file.write("".join(f"{it}\n" for it in lines).encode("latin-1"))
                 file.flush()
                 os.fsync(file.fileno())
             os.rename(temporary, self.path)
         except OSError:
             os.unlink(temporary)
             raise
+
+
+class CertificateFile(PlanFile):
+    """A file that a certificate is put into, or none."""
+
+    option, form, what = "--certificate", CERTIFICATE, "certificate"
 
 
 def same_file(path, there):
@@ -87,11 +96,11 @@ def same_file(path, there):
     return (it.st_dev, it.st_ino) == (there.st_dev, there.st_ino)
 
 
-def is_plan(path):
-    """Whether a file has calls and comments alone."""
+def has_form(path, form):
+    """Whether a file has this form, and is not long."""
     try:
         with open(path, "rb") as file:
             text = file.read((1 << 24) + 1)
     except OSError as error:
         raise Refused(f"{path}: {error.strerror}") from error
-    return len(text) <= 1 << 24 and CALLS.match(text) is not None
+    return len(text) <= 1 << 24 and form.match(text) is not None

@@ -5,6 +5,7 @@ from rewriting import places, told
 PROVES = {"check": "check: the calls, executed in turn from the initial state, lead to the goal",
           "model": "model: the calls, executed in turn from the initial state, lead to the goal, in so many steps",
           "search": "search: there is no plan of any length", "never": "never: there is no plan of any length",
+          "never-judge": "never-judge: there is no plan of any length",
           "plan": "plan: the horizon is refuted", "judge": "judge: the horizon is refuted"}
 
 

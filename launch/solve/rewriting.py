@@ -4,7 +4,7 @@ import sys
 
 from known import Known, Wish
 
-KINDS = ("; refused unsupported ", "; refused duplicate domain ")
+KINDS = ("; refused unsupported ", "; refused duplicate ")
 
 
 def try_plain(call):
@@ -25,11 +25,14 @@ def try_plain(call):
         return False
     if not it.told:
         return False
+    wish = call.known.wish
+    if it.has_auxiliaries() and (wish.least or wish.steps is not None or wish.actions is not None):
+        call.say("it was not rewritten: auxiliary calls would be counted; leave --least, --max-steps and --max-actions out")
+        return False
     call.plain, call.refusal = it, None
     call.domain_text, call.problem_text = (text.encode("latin-1") for text in it.texts)
     call.domain, call.problem = call.rooms.keep(call.domain_text), call.rooms.keep(call.problem_text)
     more = int(it.is_longer())
-    wish = call.known.wish
     call.known = Known(Wish(wish.least, *(None if most is None else most + more for most in (wish.steps, wish.actions))), call.known.kind)
     return True
 
@@ -60,4 +63,5 @@ def told(call):
         return []
     whats = dict.fromkeys(line.split(": ", 1)[1].split(": ")[0] for line in call.plain.told)
     more = "; a call more than in the files ends each plan there" if call.plain.is_longer() else ""
+    more += "; auxiliary calls stand in plans there" if call.plain.has_auxiliaries() else ""
     return [f"; rewritten: {', '.join(whats)}; what is known is of the rewritten files{more}"]

@@ -160,9 +160,13 @@ class Sat(Engine):
         status, line = came.statuses[1], first_line(came.outputs[1])
         if status is None:
             return came, None
-        found = REFUTED.match(line)
-        good = status == 0 and found and int(found[1]) == n and len(lines_of(came.outputs[1])) == 1
+        good = status == 0 and self.is_accepted(n, line) and len(lines_of(came.outputs[1])) == 1
         return came, (0 if good else status or 6, line)
+
+    def is_accepted(self, n, line):
+        """Whether the judge's line says that a proof was accepted."""
+        found = REFUTED.match(line)
+        return found and int(found[1]) == n
 
     def take_model(self, n, text):
         """Has the judge make a plan of a model."""

@@ -1,6 +1,7 @@
 """The engines in the order in which they are begun: the one table of what is run when."""
 import collections
 
+import certificates
 from nevers import Never, NeverSearch
 from planners import Planner
 from race import Race
@@ -23,6 +24,8 @@ ROWS = [
     Row("plan each", Race, 0.5, 1.0, 1, 1, 0.2, ["--growth", "101"], "plan"),
     Row("sat", Sat, 1.0, 2.0, 2, 64, 0.3, [], "solver"),
     Row("never-search", NeverSearch, 1.0, 2.0, 1, 1, 0.2, [], "never"),
+    Row("glpk", certificates.Glpk, 1.0, 2.0, 1, 1, 0.2, [], "glpk"),
+    Row("abc", certificates.Abc, 2.0, 2.0, 1, 1, 0.2, [], "abc"),
 ]
 
 
@@ -32,5 +35,8 @@ def made(call, there, chosen):
     for row in ROWS:
         if row.needs not in there or chosen and row.name.replace(" ", "-") not in chosen:
             continue
-        found.append(row.maker(call, row, call.solver_name) if row.maker is Sat else row.maker(call, row))
+        if row.needs in certificates.NAMED:
+            found.append(row.maker(call, row, [certificates.found(row.needs, call.path)], certificates.prover(call.solver_name)))
+        else:
+            found.append(row.maker(call, row, call.solver_name) if row.maker is Sat else row.maker(call, row))
     return found

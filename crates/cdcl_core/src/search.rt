@@ -289,6 +289,7 @@ impl Search {
     }
 
     /// Applies the next event. After want of memory the search is spoilt.
+    #[inline(always)]
     pub fn apply(&mut self, event: Event) -> Result<(), Memory>
         requires { MayApply self.old.formula self.old.state self.old.spoilt event }
         ensures ok { OnOk result (self.new ≡ record self.old { state = apply self.old.state event }) }

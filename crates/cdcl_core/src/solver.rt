@@ -221,6 +221,7 @@ impl<C: Chooser> Solver<C> {
     }
 
     /// The next event.
+    #[inline(always)]
     fn event(&mut self) -> Event
         requires sane { self.old.spoilt ≡ false }
         requires going { is_going self.old.state.standing ≡ true }
@@ -239,6 +240,7 @@ impl<C: Chooser> Solver<C> {
     }
 
     /// Applies the next event.
+    #[inline(always)]
     fn apply(&mut self, event: Event) -> Result<(), Memory>
         requires { MayApply self.old.formula self.old.state self.old.spoilt event }
         ensures ok { OnOk result (self.new ≡ record self.old { state = apply self.old.state event }) }
@@ -257,6 +259,7 @@ impl<C: Chooser> Solver<C> {
     }
 
     /// Goes on until it is settled or the next event is a conflict past the limit.
+    #[inline(always)]
     fn run(&mut self, conflicts: u32) -> Result<(), Memory>
         requires room { self.old.state.conflicts + conflicts ≤ 1073741824 }
         requires sane { self.old.spoilt ≡ false }

@@ -4,8 +4,10 @@ pub mod Exacts
 pub mod Steps
 pub mod Whole
 pub mod Shapes
+pub mod Stores
 pub mod Linking
 pub mod ChainWalks
 pub mod Refilled
 pub mod Lookups
 pub mod published
+pub mod Origins

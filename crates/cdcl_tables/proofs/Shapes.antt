@@ -28,8 +28,10 @@ same_clauses z v told step time r after cs n es et e =
     ∙ sym e
 
 -- what is worked out of them
-pub shape_made : (z : Shape) (v : ℕ) (told : List (List ℕ)) (r : Repeats) (after : List (List ℕ)) → AreNumbers z v told r after → v ≤ 2147483647 → variables_of r ≤ v → length told + (length (repeated r) + length after) ≤ 1073741824 → z.all_steps ≡ r.horizon * length r.step → z.before ≡ z.tolds + length (repeated r) → z.facts_begin ≡ 2 * (z.horizon * z.width) → z.facts_end ≡ z.facts_begin + 2 * (z.horizon * z.facts + z.facts) → IsShape z
-shape_made z v told r after n small fits few steps before begin end = record {
+pub shape_made : (z : Shape) (v : ℕ) (told : List (List ℕ)) (r : Repeats) (after : List (List ℕ)) → AreNumbers z v told r after → v ≤ 2147483647 → variables_of r ≤ v → length told + (length (repeated r) + length after) ≤ 1073741824 → z.all_steps ≡ r.horizon * length r.step → z.before ≡ z.tolds + length (repeated r) → z.facts_begin ≡ 2 * (z.horizon * z.width) → z.facts_end ≡ z.facts_begin + 2 * (z.horizon * z.facts + z.facts) → z.step_codes ≡ 2 * z.width → z.time_codes ≡ 2 * z.facts → IsShape z
+shape_made z v told r after n small fits few steps before begin end step_codes time_codes = record {
+  step_codes = step_codes;
+  time_codes = time_codes;
   all_steps = steps ∙ sym hs;
   variables = omega (arith, fits, hw, hf, n.facts, n.variables_is);
   small = omega (arith, small, n.variables_is);

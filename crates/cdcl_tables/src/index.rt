@@ -3,7 +3,7 @@ ghost use Rattle.std.specs.Prelude.{◌≡◌, ℕ, ◌+◌, ◌*◌, ◌<◌, �
 ghost use Rattle.std.specs.Arc.{arc_value};
 ghost use Rattle.clause_base.specs.Pairs.{pairs_of, pairs_from};
 ghost use Rattle.cdcl_tables.specs.Pairs.{IsIndex};
-ghost use Rattle.cdcl_tables.specs.own.Lists.{AreParts, AreWithin, IsShape, clauses_of};
+ghost use Rattle.cdcl_tables.specs.own.Lists.{AreParts, ArePlain, AreWithin, IsShape, clauses_of};
 
 use crate::lists::Lists;
 use crate::shape::{Shape, shape_of};
@@ -27,25 +27,27 @@ pub struct PairIndex {
     step: Arc<PairTable>,
     time: Arc<PairTable>,
     after: PairTable,
+    /// Whether no clause of two literals is told, nor added after those of all times.
+    plain: bool,
 }
 
 impl Model for PairIndex {
     ghost use Rattle.std.specs.Prelude.{List};
     ghost use Rattle.std.specs.Arc.{arc_value};
     ghost use Rattle.clause_base.specs.declared.pair.Pair.{Pair};
-    ghost use Rattle.cdcl_tables.specs.own.Lists.{AreTables, IsShape, index_of};
+    ghost use Rattle.cdcl_tables.specs.own.Lists.{ArePlain, AreTables, IsShape, index_of};
 
     ghost Value = { List (List Pair) };
 
     ghost view = { λ i. index_of i.shape i.told (arc_value i.step) (arc_value i.time) i.after };
 
-    ghost invariant = { λ i. IsShape i.shape × AreTables i.shape i.told (arc_value i.step) (arc_value i.time) i.after };
+    ghost invariant = { λ i. IsShape i.shape × AreTables i.shape i.told (arc_value i.step) (arc_value i.time) i.after × ArePlain i.plain i.told i.after };
 }
 
 /// All parts are let go in one call, so that a proof has one step for it and not one for each part.
 impl Drop for PairIndex {
     fn drop(self) {
-        let_go!(self: PairIndex { shape, told, step, time, after });
+        let_go!(self: PairIndex { shape, told, step, time, after, plain });
     }
 }
 
@@ -63,6 +65,14 @@ fn step_table(alloc: Global, shape: &Shape, step: &SharedList) -> Result<Arc<Pai
     }
     let table = step.pairs(alloc)?;
     Ok(table)
+}
+
+/// Whether the tables by all literals are known to have no pairs. In planning formulas they have none, so that one test of each literal that
+/// becomes true takes the place of two look-ups.
+fn are_plain(told: &PairTable, after: &PairTable) -> bool
+    ensures { ArePlain result told.now after.now }
+{
+    told.is_empty() && after.is_empty()
 }
 
 impl PairIndex {
@@ -104,12 +114,14 @@ impl PairIndex {
         let step = step_table(alloc, &shape, step)?;
         let time = time.pairs(alloc)?;
         let after = PairTable::new(alloc, after)?;
+        let plain = are_plain(&told, &after);
         Ok(PairIndex {
             shape,
             told,
             step,
             time,
             after,
+            plain,
         })
     }
 
@@ -125,6 +137,7 @@ impl PairIndex {
             &self.step,
             &self.time,
             &self.after,
+            self.plain,
             code,
         )
     }

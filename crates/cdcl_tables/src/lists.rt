@@ -1,7 +1,7 @@
 //! The pairs of a literal in five lists: in the rows of which literals of one step and of one time they stand, and how they are
 //! moved. How they are moved is worked out only for a list that has pairs, since most have none.
 ghost use Rattle.std.specs.Prelude.{◌≡◌, ◌+◌, ◌-◌, ◌*◌, ◌/◌, ◌<◌, ◌≤◌, [], nat_lt, if◌then◌else◌, unwrap_or};
-ghost use Rattle.cdcl_tables.specs.own.Lists.{AreTables, AreWithin, IsShape, last_list, moved_list, next_list, plain_move, step_move, time_list, time_move};
+ghost use Rattle.cdcl_tables.specs.own.Lists.{ArePlain, AreTables, AreWithin, IsShape, last_list, moved_list, next_list, plain_move, step_move, time_list, time_move};
 ghost use Rattle.cdcl_tables.specs.declared.origin.Origin.TheVariants.{Step, Time};
 ghost use Rattle.cdcl_tables.specs.Origin.{AreEmptyBy, IsOrigin};
 
@@ -117,19 +117,20 @@ pub struct Lists<'a> {
     step: &'a PairTable,
     time: &'a PairTable,
     after: &'a PairTable,
+    plain: bool,
     code: u32,
     origin: Origin,
 }
 
 impl<'a> Model for Lists<'a> {
-    ghost use Rattle.cdcl_tables.specs.own.Lists.{AreTables, IsShape, last_list, moved_list, next_list, plain_move, time_list};
+    ghost use Rattle.cdcl_tables.specs.own.Lists.{ArePlain, AreTables, IsShape, last_list, moved_list, next_list, plain_move, time_list};
     ghost use Rattle.cdcl_tables.specs.Origin.{IsOrigin, ListsView};
 
     ghost Value = { ListsView };
 
     ghost view = { λ l. record { origin = l.origin; told = moved_list l.told.now (plain_move 0) l.code; last = last_list l.shape.now l.step.now l.code; next = next_list l.shape.now l.step.now l.code; time = time_list l.shape.now l.time.now l.code; after = moved_list l.after.now (plain_move l.shape.now.before) l.code } };
 
-    ghost invariant = { λ l. IsShape l.shape.now × AreTables l.shape.now l.told.now l.step.now l.time.now l.after.now × IsOrigin l.shape.now l.code l.origin };
+    ghost invariant = { λ l. IsShape l.shape.now × AreTables l.shape.now l.told.now l.step.now l.time.now l.after.now × IsOrigin l.shape.now l.code l.origin × ArePlain l.plain l.told.now l.after.now };
 }
 
 impl<'a> Lists<'a> {
@@ -141,10 +142,12 @@ impl<'a> Lists<'a> {
         step: &'a PairTable,
         time: &'a PairTable,
         after: &'a PairTable,
+        plain: bool,
         code: u32,
     ) -> Lists<'a>
         requires shape { IsShape shape.now }
         requires tables { AreTables shape.now told.now step.now time.now after.now }
+        requires plain { ArePlain plain told.now after.now }
         ensures told { result.told ≡ moved_list told.now (plain_move 0) code }
         ensures last { result.last ≡ last_list shape.now step.now code }
         ensures next { result.next ≡ next_list shape.now step.now code }
@@ -158,6 +161,7 @@ impl<'a> Lists<'a> {
             step,
             time,
             after,
+            plain,
             code,
             origin,
         }
@@ -168,6 +172,9 @@ impl<'a> Lists<'a> {
     pub fn told(&self) -> Option<PairList<'a>>
         ensures { unwrap_or result [] ≡ self.now.told }
     {
+        if self.plain {
+            return None;
+        }
         plain_list(self.told, self.code, 0)
     }
 
@@ -222,6 +229,9 @@ impl<'a> Lists<'a> {
     pub fn after(&self) -> Option<PairList<'a>>
         ensures { unwrap_or result [] ≡ self.now.after }
     {
+        if self.plain {
+            return None;
+        }
         plain_list(self.after, self.code, self.shape.before)
     }
 }

@@ -22,13 +22,12 @@ pub fn origin_of(shape: &Shape, code: u32) -> Origin
     ensures { IsOrigin shape.now code result }
 {
     if code < shape.facts_begin {
-        let codes = 2 * shape.width;
-        return Origin::Step(code / codes, code % codes);
+        let of_step = shape.step_codes.parts(code);
+        return Origin::Step(of_step.quotient, of_step.rest);
     }
     if code >= shape.facts_end {
         return Origin::Other;
     }
-    let facts = 2 * shape.facts;
-    let fact = code - shape.facts_begin;
-    Origin::Time(fact / facts, fact % facts)
+    let of_time = shape.time_codes.parts(code - shape.facts_begin);
+    Origin::Time(of_time.quotient, of_time.rest)
 }

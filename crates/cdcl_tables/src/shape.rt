@@ -4,6 +4,7 @@ ghost use Rattle.clause_base.specs.Repeats.{repeated as repeated_clauses, variab
 ghost use Rattle.cdcl_tables.specs.own.Lists.{AreNumbers, IsShape};
 
 use clause_base::clause_list::ClauseList;
+use clause_base::divisor::Divisor;
 use clause_base::repeated::Repeated;
 
 /// The numbers of a formula's parts.
@@ -33,6 +34,10 @@ pub struct Shape {
     pub facts_begin: u32,
     /// The code after that of the last fact at the last time.
     pub facts_end: u32,
+    /// How many codes the variables of a step have.
+    pub step_codes: Divisor,
+    /// How many codes the facts at a time have.
+    pub time_codes: Divisor,
 }
 
 /// How many clauses all steps have.
@@ -62,6 +67,8 @@ pub fn shape_of(variables: u32, told: &ClauseList, part: &Repeated, after: &Clau
     let times = part.time().count() as u32;
     let afters = after.count() as u32;
     let repeats = part.count();
+    let step_codes = Divisor::of(2 * width as usize);
+    let time_codes = Divisor::of(2 * facts as usize);
     Shape {
         variables,
         horizon,
@@ -75,5 +82,7 @@ pub fn shape_of(variables: u32, told: &ClauseList, part: &Repeated, after: &Clau
         before: tolds + repeats,
         facts_begin,
         facts_end: facts_begin + 2 * (horizon * facts + facts),
+        step_codes,
+        time_codes,
     }
 }

@@ -1,13 +1,14 @@
 -- The files of a request, and what is handed on.
-use Rattle.std.proofs.Common.{◌≡◌, ◌<◌, ◌∙◌, ℕ, Bool, List, [], ◌∷◌, length, Result, refl, subst, ap, arith}
+use Rattle.std.proofs.Common.{◌≡◌, ◌≤◌, ◌<◌, ◌∙◌, ℕ, Bool, List, [], ◌∷◌, length, Result, refl, subst, ap, arith}
 use Rattle.std.specs.Prelude.{IsErrAnd}
 use Rattle.std.specs.List.{AllByRecursion}
 use Rattle.std.proofs.lemmas.List.{length-map}
 use Rattle.gt_core.specs.Task.{Task}
 use Rattle.horizon_rates.specs.declared.settings.Settings.{Settings}
 use Rattle.pd_model.specs.declared.parts.Parts.{Parts}
-use Rattle.requests.specs.Seen.{seen, files_of}
-use Rattle.requests.specs.declared.request.Request.{Request}
+use Rattle.requests.specs.Seen.{Seen}
+use Rattle.plan_tasks.specs.Limits.{most_of, AreShort}
+use Rattle.commands.specs.Files.{third_of, file_at}
 use Rattle.grounding_defs.specs.Grounded.{Grounded, IsGrounded}
 use Rattle.race_outcome.specs.declared.end.RaceEnd.{RaceEnd}
 use Rattle.race_outcome.specs.declared.end.RaceEnd.TheVariants as races
@@ -23,13 +24,17 @@ use Rattle.plan_endings.proofs.published.Stopped.{EndsAs-handed}
 
 -- ---- lists of so many files
 
-pub none_are : (files : List (List ℕ)) → length files ≡ 0 → files ≡ []
-none_are [] none = refl
-none_are (f ∷ fs) none = absurd (omega arith)
+-- where there are two files there is no third one
+pub no_third : (domain problem : List ℕ) (others : List (List ℕ)) → length (domain ∷ problem ∷ others) ≡ 2 → others ≡ []
+no_third domain problem [] two = refl
+no_third domain problem (other ∷ others) two = absurd (omega arith)
 
--- there are as many files as the request of an arm names
-pub counted : (files : List (List ℕ)) (asked request : Request) (n : ℕ) → length files ≡ length (files_of (seen asked)) → asked ≡ request → length (files_of (seen request)) ≡ n → length files ≡ n
-counted files asked request n all is so_many = all ∙ ap (λ (r : Request). length (files_of (seen r))) is ∙ so_many
+-- the third of three files has no more bytes than it may have
+pub third_fits : (asked request : Seen) (domain problem : List ℕ) (others : List (List ℕ)) (third : List ℕ) → asked ≡ request → others ≡ third ∷ [] → AreShort (file_at asked) 0 (domain ∷ problem ∷ others) → length third ≤ most_of (third_of request)
+third_fits asked request domain problem others third same is fit =
+    let here = subst (λ (r : Seen). AreShort (file_at r) 0 (domain ∷ problem ∷ others)) same fit in
+    let it = subst (λ (xs : List (List ℕ)). AreShort (file_at request) 2 xs) is here.1.1 in
+    it.0
 
 -- ---- what is handed on
 

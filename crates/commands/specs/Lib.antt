@@ -1,5 +1,10 @@
 pub use Rattle.plan_tasks.specs.Stepping
 pub use Rattle.plan_tasks.specs.Tasks
+pub mod Files
 pub mod Raced
 pub mod Generated
 pub mod Answers
+pub mod Known
+pub mod Certificate
+pub mod Proved
+pub mod Judged

@@ -4,20 +4,19 @@ ghost use Rattle.std.specs.List.{list_all};
 ghost use Rattle.pd_model.specs.Fits.{is_call};
 ghost use Rattle.pd_plan.specs.PlanFile.{plan_file};
 ghost use Rattle.requests.specs.Seen.{seen, files_of, IsSized};
-ghost use Rattle.requests.specs.OneTask.{IsOfOne};
 ghost use Rattle.containers.specs.Limits.{most_bytes};
-ghost use Rattle.input_files.specs.Limits.{most_of, third_of, file_at, AreShort};
+ghost use Rattle.plan_tasks.specs.Limits.{AreShort};
+ghost use Rattle.plan_tasks.specs.Named.{names_of as names_in, bytes_of, third_bytes as third_now};
+ghost use Rattle.commands.specs.Files.{third_of as third_in, file_at, HasFiles};
 ghost use Rattle.commands.specs.Tasks.{OnceRead, OnceGrounded};
 ghost use Rattle.commands.specs.Answers.{Decides, AnswersPlan, AnswersGround, AnswersOrder, AnswersCheck, RefusesCalls, ending_of};
 ghost use Rattle.plan_endings.specs.Ends.{EndsAs, StopsBy};
 
 use crate::certify::{answer_prove, answer_verify};
-use crate::generated::answer_gen;
 use crate::raced::raced;
 use crate::reported::reported;
 use action_order::publish::publish;
 use horizon_rates::Settings;
-use input_files::parts::{three_of, two_of};
 use pd_model::{Calls, Pddl, Verdict};
 use pd_plan::{PlanFault, read_plan};
 use pl_io::Bytes;
@@ -25,6 +24,7 @@ use plan_endings::stop::{Stop, refuse};
 use plan_endings::{Ending, File, Kind};
 use plan_report::{push_ground, push_order};
 use plan_tasks::ready::read_ready;
+use plan_tasks::take::{Files, Names};
 use plan_tasks::task::read_task;
 use requests::{Request, Stepping};
 use solver_pool::Gate;
@@ -33,62 +33,117 @@ use std::sync::Wait;
 use std::thread::Threads;
 use two_invariants::find;
 
+/// The names of the files of a request, of which a command has two or three; `gen` has none, `batch` any number.
+pub fn names_of<'a>(request: &Request<'a>) -> Names<'a>
+    requires { HasFiles (seen request.now) }
+    ensures { names_in result ≡ files_of (seen request.now) }
+{
+    match request {
+        Request::Plan {
+            domain,
+            problem,
+            ..
+        } => two(domain, problem),
+        Request::Ground { domain, problem } => two(domain, problem),
+        Request::Order { domain, problem } => two(domain, problem),
+        Request::Check {
+            domain,
+            problem,
+            plan,
+        } => three(domain, problem, plan),
+        Request::Prove {
+            domain,
+            problem,
+            ..
+        } => two(domain, problem),
+        Request::Verify {
+            domain,
+            problem,
+            certificate,
+        } => three(domain, problem, certificate),
+        // The caller's condition leaves these out.
+        Request::Gen { .. } => unreachable!(),
+        Request::Batch { .. } => unreachable!(),
+    }
+}
+
+/// What the file after the first two of a request is, where it has one.
+pub fn third_of(request: &Request<'_>) -> File
+    ensures { HasFiles (seen request.now) → result ≡ third_in (seen request.now) }
+{
+    match request {
+        Request::Verify { .. } => File::Proof,
+        _ => File::Plan,
+    }
+}
+
+// The names of two files.
+fn two<'a>(domain: &'a str, problem: &'a str) -> Names<'a>
+    ensures { names_in result ≡ domain.now ∷ problem.now ∷ [] }
+{
+    Names {
+        domain,
+        problem,
+        third: None,
+    }
+}
+
+// The names of three files.
+fn three<'a>(domain: &'a str, problem: &'a str, third: &'a str) -> Names<'a>
+    ensures { names_in result ≡ domain.now ∷ problem.now ∷ third.now ∷ [] }
+{
+    Names {
+        domain,
+        problem,
+        third: Some(third),
+    }
+}
+
 /// What the bytes of its files, in the order of the words, decide for a request.
-#[tactic(auto, using(crate::proofs::Answered::counted))]
 pub fn answer<H: Threads + Wait + Sync, G: Gate>(
     rt: &H,
     alloc: Global,
     request: &Request<'_>,
-    files: &[Bytes],
+    files: &Files,
     gate: &G,
 ) -> Result<Ending, Stop>
-    requires fit { AreShort (file_at (seen request.now)) 0 files.now }
-    requires count { length files.now ≡ length (files_of (seen request.now)) }
+    requires fit { AreShort (file_at (seen request.now)) 0 (bytes_of files.now) }
+    requires count { length (bytes_of files.now) ≡ length (files_of (seen request.now)) }
     requires sized { IsSized (seen request.now) }
-    requires of_one { IsOfOne (seen request.now) }
-    ensures { EndsAs (Decides (seen request.now) files.now) result }
+    requires has { HasFiles (seen request.now) }
+    ensures { EndsAs (Decides (seen request.now) (bytes_of files.now)) result }
 {
+    let domain = files.domain.as_slice();
+    let problem = files.problem.as_slice();
     match request {
         Request::Plan {
             stepping,
             settings,
             ..
-        } => {
-            let (domain, problem) = two_of(request, files);
-            answer_plan(rt, alloc, *stepping, domain, problem, settings, gate)
-        }
-        Request::Ground { .. } => {
-            let (domain, problem) = two_of(request, files);
-            answer_ground(alloc, domain, problem)
-        }
-        Request::Order { .. } => {
-            let (domain, problem) = two_of(request, files);
-            answer_order(rt, alloc, domain, problem)
-        }
-        Request::Check { .. } => {
-            let (domain, problem, plan) = three_of(request, files);
-            answer_check(alloc, domain, problem, plan)
-        }
-        Request::Gen {
-            kind,
-            number,
-            settings,
-            show,
-        } => answer_gen(rt, alloc, *kind, *number, *show, settings, gate),
+        } => answer_plan(rt, alloc, *stepping, domain, problem, settings, gate),
+        Request::Ground { .. } => answer_ground(alloc, domain, problem),
+        Request::Order { .. } => answer_order(rt, alloc, domain, problem),
+        Request::Check { .. } => answer_check(alloc, domain, problem, third_bytes(files)),
         Request::Prove {
             horizon,
             budget,
             ..
-        } => {
-            let (domain, problem) = two_of(request, files);
-            answer_prove(rt, alloc, domain, problem, *horizon, *budget)
-        }
-        Request::Verify { .. } => {
-            let (domain, problem, proof) = three_of(request, files);
-            answer_verify(rt, alloc, domain, problem, proof)
-        }
-        // Of several tasks: the caller's condition leaves it out.
+        } => answer_prove(rt, alloc, domain, problem, *horizon, *budget),
+        Request::Verify { .. } => answer_verify(rt, alloc, domain, problem, third_bytes(files)),
+        // The caller's condition leaves these out.
+        Request::Gen { .. } => unreachable!(),
         Request::Batch { .. } => unreachable!(),
+    }
+}
+
+// The bytes of the third of three files.
+fn third_bytes(files: &Files) -> &[u8]
+    requires { length (bytes_of files.now) ≡ 3 }
+    ensures { third_now files.now.third ≡ result.now ∷ [] }
+{
+    match &files.third {
+        Some(third) => third.as_slice(),
+        None => unreachable!(),
     }
 }
 

@@ -25,7 +25,7 @@ use std::sync::Wait;
 use std::thread::Threads;
 
 /// What a generated task comes to: the text that is shown, or how the race on it ended.
-pub(crate) fn answer_gen<H: Threads + Wait + Sync, G: Gate>(
+pub fn answer_gen<H: Threads + Wait + Sync, G: Gate>(
     rt: &H,
     alloc: Global,
     kind: Kind,

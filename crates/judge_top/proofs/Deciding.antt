@@ -6,32 +6,32 @@ use Rattle.step_laws.specs.Form.{OrderedTask}
 use Rattle.step_plans.specs.Known.{form_of}
 use Rattle.plan_tasks.specs.Stepping.{places_by}
 use Rattle.plan_endings.specs.declared.ending.File.{File}
-use Rattle.input_files.specs.Limits.{file_at}
-use Rattle.input_files.specs.Files.{AreTaken, StopsFrom}
-use Rattle.requests.specs.Seen.{grounds}
+use Rattle.plan_endings.specs.declared.ending.File.TheVariants.{Proof}
+use Rattle.plan_tasks.specs.Limits.{file_in}
+use Rattle.plan_tasks.specs.Files.{AreTaken, StopsFrom}
 use Rattle.plan_endings.specs.declared.ending.Ending.{Ending}
 use Rattle.judge_top.specs.Seen.{Seen, domain_of, problem_of}
 use Rattle.judge_top.specs.declared.ended.Ended.TheVariants.{Plain}
 use Rattle.judge_top.specs.Causes.{Answers, ComesFor, two_of}
-use Rattle.input_files.proofs.published.Hearing.{two_taken}
+use Rattle.plan_tasks.proofs.published.Hearing.{two_taken}
 use Rattle.requests.specs.declared.request.Stepping.{Stepping}
 use Rattle.judge_top.specs.declared.ended.Ended.{Ended}
 use Rattle.judge_top.specs.Answers.{TapeRun, tape_run, OnceReady, not_ready, ready, IsTold, AnswersJudge, AnswersModel, too_large, unread, judged, model}
 use Rattle.judge_top.specs.declared.model.Told.{Told}
 use Rattle.judge_top.specs.declared.model.Told.TheVariants as told
 
--- all of two files, under their names
+-- all of the first two files, under their names
 wholes : List ℕ → List ℕ → List (List ℕ) → List Heard
-wholes d p (first ∷ second ∷ []) = whole d first ∷ whole p second ∷ []
+wholes d p (first ∷ second ∷ others) = whole d first ∷ whole p second ∷ []
 wholes d p files = []
 
 -- two files that were taken are these
-pub both_taken : (file : ℕ → File) (d p : List ℕ) (heard hears took : List Heard) (files : List (List ℕ)) (first second : List ℕ) → hears ≡ heard ++ took → AreTaken file 0 (d ∷ p ∷ []) took files
-    → files ≡ first ∷ second ∷ [] → hears ≡ heard ++ whole d first ∷ whole p second ∷ []
+pub both_taken : (file : ℕ → File) (d p : List ℕ) (heard hears took : List Heard) (first second : List ℕ) (others : List (List ℕ)) → hears ≡ heard ++ took → AreTaken file 0 (d ∷ p ∷ []) took (first ∷ second ∷ others)
+    → hears ≡ heard ++ whole d first ∷ whole p second ∷ []
 unfolding wholes
-both_taken file d p heard hears took files first second is taken are =
-    let two = two_taken file 0 d p took files taken in
-    let same : two.0 ∷ two.1 ∷ [] ≡ first ∷ second ∷ [] = sym two.2 ∙ are in
+both_taken file d p heard hears took first second others is taken =
+    let two = two_taken file 0 d p took (first ∷ second ∷ others) taken in
+    let same : two.0 ∷ two.1 ∷ [] ≡ first ∷ second ∷ others = sym two.2 in
     is ∙ (ap (λ (t : List Heard). heard ++ t) two.3 ∙ ap (λ (fs : List (List ℕ)). heard ++ wholes d p fs) same)
 
 -- a count that rose since rose from before
@@ -50,7 +50,7 @@ judged_before first second s h before was tape le end (ready task g are is (judg
 
 told_before : (s : Stepping) (h before : ℕ) (was : Given) (tape : TapeRun) → before ≤ tape.faults → (said : Told) (form : OrderedTask) → IsTold (places_by s) h tape said form → IsTold (places_by s) h (since before was tape) said form
 told_before s h before was tape le told.Unread form k = rose_before before tape.faults tape.rises le k
-told_before s h before was tape le (told.NoText at) form k = k
+told_before s h before was tape le (told.Refused refusal) form k = k
 told_before s h before was tape le (told.NoModel clause) form k = k
 told_before s h before was tape le (told.Plan steps) form k = k
 
@@ -64,7 +64,7 @@ model_before first second s h before was tape le end (ready task g are is (model
 -- ---- the names of the two files, as a request gives them
 
 abbrev IsStopped : List Heard → List Heard → List (List ℕ) → List (List ℕ) → List ℕ → List ℕ → Ending → Type 0
-IsStopped heard hears failed fails d p end = (took : List Heard) × (hears ≡ heard ++ took) × StopsFrom failed fails (file_at (grounds d p)) 0 (d ∷ p ∷ []) took end
+IsStopped heard hears failed fails d p end = (took : List Heard) × (hears ≡ heard ++ took) × StopsFrom failed fails (file_in Proof) 0 (d ∷ p ∷ []) took end
 
 module _ (request : Seen) (d p : List ℕ) (domain : d ≡ domain_of request) (problem : p ≡ problem_of request) where
   pub two_named : d ∷ p ∷ [] ≡ two_of request

@@ -1,5 +1,5 @@
 -- The promises of the top call, each from what it needs alone: mostly that its ending has a cause and that its text is written.
-use Rattle.std.proofs.Common.{◌≡◌, ◌==◌, ◌≤◌, ◌+◌, ◌-◌, ℕ, length, Bool, true, false, List, [], ◌∷◌, Option, Some, None, refl, sym, ap, subst, ◌∙◌, arith, inl, inr}
+use Rattle.std.proofs.Common.{◌≡◌, ◌≤◌, ◌+◌, ℕ, Bool, true, false, List, [], ◌∷◌, Option, Some, None, refl, sym, ap, subst, ◌∙◌, arith, inl, inr}
 use Rattle.std.specs.Prelude.{Contains, ◌⊎◌}
 use Rattle.pl_io.specs.Outside.{Heard, Rose, appended}
 use Rattle.clause_base.specs.Formula.{Cnf}
@@ -14,14 +14,14 @@ use Rattle.step_plans.specs.Known.{form_of, formula_at}
 use Rattle.lrat_judge.specs.Verdicts.{verdict_ended, verdict_of, has_empty}
 use Rattle.lrat_judge.specs.declared.verdict.Verdict.{Verdict}
 use Rattle.lrat_judge.specs.declared.verdict.Verdict.TheVariants as verdicts
-use Rattle.requests.specs.Seen.{grounds}
 use Rattle.requests.specs.declared.request.Stepping.{Stepping}
 use Rattle.plan_endings.specs.Ending as plain
 use Rattle.plan_endings.specs.declared.ending.File.{File}
+use Rattle.plan_endings.specs.declared.ending.File.TheVariants.{Proof}
 use Rattle.plan_endings.specs.declared.ending.Ending.{Ending}
 use Rattle.plan_endings.specs.declared.ending.Ending.TheVariants.{Listing}
-use Rattle.input_files.specs.Limits.{file_at}
-use Rattle.input_files.specs.Files.{StopsFrom, RoseAmong}
+use Rattle.plan_tasks.specs.Limits.{file_in}
+use Rattle.plan_tasks.specs.Files.{StopsFrom, RoseAmong}
 use Rattle.plan_tasks.specs.Stepping.{places_by}
 use Rattle.plan_tasks.specs.Tasks.{AreTask, IsReady, StopsTask, refused, past, RefusesTask, domain_tree, problem_tree, no_task, refusal_of}
 use Rattle.plan_tasks.specs.Claims.{Printed, OfFiles}
@@ -40,6 +40,7 @@ use Rattle.judge_top.specs.declared.ended.Ended.{Ended}
 use Rattle.judge_top.specs.declared.ended.Ended.TheVariants.{Plain, Unread, Usage}
 use Rattle.judge_top.specs.Answers.{TapeRun, HasOpened, OnceReady, not_ready, ready, AnswersFormula, AnswersJudge, AnswersModel, too_large, formula, unread, judged, model, ended_by, IsUnread, TellsTooMany, word_of}
 use Rattle.judge_top.specs.declared.model.Told.TheVariants as tolds
+use Rattle.sat_text.specs.declared.value_reader.Refused.TheVariants as refusals
 use Rattle.judge_top.proofs.Given.{itself}
 use Rattle.judge_top.specs.Causes.{Answers, Comes, no_request, asked, ComesFor, StopsAt, OfTaken, HasFault, names_in, two_of}
 use Rattle.judge_top.specs.Headline.{IsProvedNone, PlanRunsIn, TellsFormula, WhenRead, OfVerdict, IsAccepted, IsRejected, IsNoProof, OrNoTask, TellsModel, TellsNoModel, TellsNoText, IsModelTold, IsNoModelTold, IsNoTextTold}
@@ -117,11 +118,11 @@ ended_apart verdicts.NotEmpty e = cc
 ended_apart (verdicts.TooLong line) e = cc
 ended_apart (verdicts.Syntax at) e = cc
 
-never_more : (formula : Cnf) (text : List ℕ) → verdict_of formula text ≡ verdicts.More → ⊥
+never_more : (cnf : Cnf) (text : List ℕ) → verdict_of cnf text ≡ verdicts.More → ⊥
 unfolding verdict_of
-never_more formula text e = by (has_empty formula.clauses) refl e
+never_more cnf text e = by (has_empty cnf.clauses) refl e
   where
-    by : (b : Bool) → has_empty formula.clauses ≡ b → verdict_of formula text ≡ verdicts.More → ⊥
+    by : (b : Bool) → has_empty cnf.clauses ≡ b → verdict_of cnf text ≡ verdicts.More → ⊥
     by true f g = let never : verdicts.Refuted 0 ≡ verdicts.More = rw f at g in cc
     by false f g = ended_apart _ (rw f at g)
 
@@ -143,7 +144,7 @@ IsLow names failed fails faults rises end = ((status_of end ≡ 5) × (RoseAmong
 module _ (heard hears : List Heard) (failed fails : List (List ℕ)) (tape : TapeRun) where
   stop_low : (d p : List ℕ) (end : Ended) → StopsAt heard hears failed fails tape d p end → IsLow (d ∷ p ∷ []) failed fails tape.faults tape.rises end
   unfolding IsLow
-  stop_low d p end h = elim (files_between failed fails (file_at (grounds d p)) 0 (d ∷ p ∷ []) h.1 h.0 h.3) [
+  stop_low d p end h = elim (files_between failed fails (file_in Proof) 0 (d ∷ p ∷ []) h.1 h.0 h.3) [
     | inl k ↦ inl (ap status_of h.4 ∙ k.0, inl k.1)
     | inr four ↦ inr (let is = ap status_of h.4 in omega (arith, is, four))
   ]
@@ -173,7 +174,8 @@ module _ (heard hears : List Heard) (failed fails : List (List ℕ)) (tape : Tap
   model_low names first second s h end (not_ready plain_end stops e) = inr (not_ready_low first second plain_end end stops e).1
   model_low names first second s h end (ready task g are is (too_large plain_end over e)) = inr (let four = ap status_of e ∙ ap plain.status_of over.1 in omega (arith, four))
   model_low names first second s h end (ready task g are is (model tolds.Unread known small e)) = inl (ap status_of e, inr known.holds)
-  model_low names first second s h end (ready task g are is (model (tolds.NoText at) known small e)) = inr (let three = ap status_of e in omega (arith, three))
+  model_low names first second s h end (ready task g are is (model (tolds.Refused (refusals.NoText at)) known small e)) = inr (let three = ap status_of e in omega (arith, three))
+  model_low names first second s h end (ready task g are is (model (tolds.Refused (refusals.LongLine line)) known small e)) = inr (let four = ap status_of e in omega (arith, four))
   model_low names first second s h end (ready task g are is (model (tolds.NoModel clause) known small e)) = inr (let one = ap status_of e in omega (arith, one))
   model_low names first second s h end (ready task g are is (model (tolds.Plan steps) known small e)) = inr (let zero = ap status_of e in omega (arith, zero))
 
@@ -234,7 +236,7 @@ module _ (heard hears : List Heard) (failed fails : List (List ℕ)) (tape : Tap
       subst (λ (r : Seen). ComesFor heard hears failed fails tape r end) same h
 
   low_only : {A : Type 0} (n : ℕ) (end : Ended) → n ≤ 3 → status_of end ≡ n → (d p : List ℕ) → StopsAt heard hears failed fails tape d p end → A
-  low_only n end low at d p h = elim (files_between failed fails (file_at (grounds d p)) 0 (d ∷ p ∷ []) h.1 h.0 h.3) [
+  low_only n end low at d p h = elim (files_between failed fails (file_in Proof) 0 (d ∷ p ∷ []) h.1 h.0 h.3) [
     | inl k ↦ absurd (let five = ap status_of h.4 ∙ k.0 in omega (arith, five, at, low))
     | inr four ↦ absurd (let is = ap status_of h.4 ∙ four in omega (arith, is, at, low))
   ]
@@ -303,8 +305,8 @@ module _ (heard hears : List Heard) (failed fails : List (List ℕ)) (tape : Tap
     verdict_told opened end at printed task g is (too_large plain_end over e) = not_limit n how horizon g end low at plain_end over e
     verdict_told opened end at printed task g is (unread plain_end un e) = not_unread n end low at plain_end un e
     verdict_told opened end at printed task g is (judged verdict e so none) =
-        let formula = formula_at (places_by how) (form_of g.task so.clauses so.components) horizon in
-        let ended = λ (more : verdict ≡ verdicts.More). never_more formula tape.given.bytes (sym (so.holds.is tape.given.bytes (itself tape.given)) ∙ more) in
+        let cnf = formula_at (places_by how) (form_of g.task so.clauses so.components) horizon in
+        let ended = λ (more : verdict ≡ verdicts.More). never_more cnf tape.given.bytes (sym (so.holds.is tape.given.bytes (itself tape.given)) ∙ more) in
         let told = gives verdict ended (sym (ap status_of e) ∙ at) (printed ∙ ap (λ (end : Ended). appended before (text_of end)) e) in (
           record { opened = opened; sound = so.holds.sound },
           claims.of_grounded laws task g is so.clauses so.components so.ordered (λ h clauses components. (file : List ℕ) → IsFileOf tape.given file → claim (verdict_of (formula_at (places_by how) (form_of h.task clauses components) horizon) file))
@@ -372,7 +374,8 @@ module _ (heard hears : List Heard) (failed fails : List (List ℕ)) (tape : Tap
       planned : (end : Ended) → status_of end ≡ 0 → text ≡ text_of end → (task : Parts) (g : Grounded) → IsReady task g → AnswersModel how horizon tape task g end → PlanRunsIn how horizon text task
       planned end at same task g is (too_large plain_end over e) = not_limit 0 how horizon g end (omega arith) at plain_end over e
       planned end at same task g is (model tolds.Unread known small e) = absurd (let five = ap status_of e in omega (arith, five, at))
-      planned end at same task g is (model (tolds.NoText place) known small e) = absurd (let three = ap status_of e in omega (arith, three, at))
+      planned end at same task g is (model (tolds.Refused (refusals.NoText place)) known small e) = absurd (let three = ap status_of e in omega (arith, three, at))
+      planned end at same task g is (model (tolds.Refused (refusals.LongLine line)) known small e) = absurd (let four = ap status_of e in omega (arith, four, at))
       planned end at same task g is (model (tolds.NoModel clause) known small e) = absurd (let one = ap status_of e in omega (arith, one, at))
       planned end at same task g is (model (tolds.Plan steps) known small e) =
           let values = known.holds.0 in
@@ -398,7 +401,8 @@ module _ (heard hears : List Heard) (failed fails : List (List ℕ)) (tape : Tap
     tells_model : (end : Ended) → status_of end ≡ 0 → text ≡ text_of end → AnswersModel how horizon tape task g end → WhenRead tape.before given name (TellsModel how horizon given text) task
     tells_model end at same (too_large plain_end over e) = not_limit 0 how horizon g end (omega arith) at plain_end over e
     tells_model end at same (model tolds.Unread known small e) = absurd (let five = ap status_of e in omega (arith, five, at))
-    tells_model end at same (model (tolds.NoText place) known small e) = absurd (let three = ap status_of e in omega (arith, three, at))
+    tells_model end at same (model (tolds.Refused (refusals.NoText place)) known small e) = absurd (let three = ap status_of e in omega (arith, three, at))
+    tells_model end at same (model (tolds.Refused (refusals.LongLine line)) known small e) = absurd (let four = ap status_of e in omega (arith, four, at))
     tells_model end at same (model (tolds.NoModel clause) known small e) = absurd (let one = ap status_of e in omega (arith, one, at))
     tells_model end at same (model (tolds.Plan steps) known small e) =
         let h = known.holds in (
@@ -410,7 +414,8 @@ module _ (heard hears : List Heard) (failed fails : List (List ℕ)) (tape : Tap
     tells_no_model : (end : Ended) → status_of end ≡ 1 → text ≡ text_of end → AnswersModel how horizon tape task g end → WhenRead tape.before given name (TellsNoModel how horizon given text) task
     tells_no_model end at same (too_large plain_end over e) = not_limit 1 how horizon g end (omega arith) at plain_end over e
     tells_no_model end at same (model tolds.Unread known small e) = absurd (let five = ap status_of e in omega (arith, five, at))
-    tells_no_model end at same (model (tolds.NoText place) known small e) = absurd (let three = ap status_of e in omega (arith, three, at))
+    tells_no_model end at same (model (tolds.Refused (refusals.NoText place)) known small e) = absurd (let three = ap status_of e in omega (arith, three, at))
+    tells_no_model end at same (model (tolds.Refused (refusals.LongLine line)) known small e) = absurd (let four = ap status_of e in omega (arith, four, at))
     tells_no_model end at same (model (tolds.Plan steps) known small e) = absurd (let zero = ap status_of e in omega (arith, zero, at))
     tells_no_model end at same (model (tolds.NoModel clause) known small e) =
         let h = known.holds in
@@ -421,8 +426,9 @@ module _ (heard hears : List Heard) (failed fails : List (List ℕ)) (tape : Tap
     tells_no_text end at same (model tolds.Unread known small e) = absurd (let five = ap status_of e in omega (arith, five, at))
     tells_no_text end at same (model (tolds.NoModel clause) known small e) = absurd (let one = ap status_of e in omega (arith, one, at))
     tells_no_text end at same (model (tolds.Plan steps) known small e) = absurd (let zero = ap status_of e in omega (arith, zero, at))
-    tells_no_text end at same (model (tolds.NoText place) known small e) =
+    tells_no_text end at same (model (tolds.Refused (refusals.NoText place)) known small e) =
         (once known.holds.sound, claims.of_grounded laws task g ready_is known.clauses known.components known.ordered (IsNoTextTold how horizon given text task) (place, known.holds, same ∙ ap text_of e))
+    tells_no_text end at same (model (tolds.Refused (refusals.LongLine line)) known small e) = absurd (let four = ap status_of e in omega (arith, four, at))
 
   -- no model that could not be opened has such a status
   unopened : {A : Type 0} (n : ℕ) (end : Ended) → n ≤ 3 → status_of end ≡ n → end ≡ Unread → A

@@ -1,11 +1,11 @@
 -- When each ending of a run of the judge comes.
 use Rattle.std.specs.Prelude.{◌≡◌, ◌⊎◌, ℕ, List, [], ◌∷◌, ◌++◌, Some, None}
 use Rattle.pl_io.specs.Outside.{Heard, whole, Rose}
-use Rattle.requests.specs.Seen.{grounds}
 use Rattle.requests.specs.declared.request.Stepping.{Stepping}
-use Rattle.input_files.specs.Limits.{file_at}
-use Rattle.input_files.specs.Files.{StopsFrom, RoseAmong}
+use Rattle.plan_tasks.specs.Limits.{file_in}
+use Rattle.plan_tasks.specs.Files.{StopsFrom, RoseAmong}
 use Rattle.plan_endings.specs.declared.ending.Ending.{Ending}
+use Rattle.plan_endings.specs.declared.ending.File.TheVariants.{Proof}
 use Rattle.judge_top.specs.Seen.{Seen, formulas, judges, models, domain_of, problem_of}
 use Rattle.judge_top.specs.Requested.{requested}
 use Rattle.judge_top.specs.declared.ended.Ended.{Ended}
@@ -46,7 +46,7 @@ module _ (heard hears : List Heard) (failed fails : List (List ℕ)) (tape : Tap
   -- two files of these names stop a run: one of them was not taken whole
   abbrev pub StopsAt : List ℕ → List ℕ → Ended → Type 0
   StopsAt domain problem end =
-      (plain : Ending) × (took : List Heard) × (hears ≡ heard ++ took) × StopsFrom failed fails (file_at (grounds domain problem)) 0 (domain ∷ problem ∷ []) took plain × (end ≡ Plain plain)
+      (plain : Ending) × (took : List Heard) × (hears ≡ heard ++ took) × StopsFrom failed fails (file_in Proof) 0 (domain ∷ problem ∷ []) took plain × (end ≡ Plain plain)
 
   -- When an ending comes for a request: the domain or the problem stops it, or both were taken whole and come to it.
   abbrev pub ComesFor : Seen → Ended → Type 0

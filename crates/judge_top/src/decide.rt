@@ -1,7 +1,7 @@
 //! How a run ends, before anything is written.
 ghost use Rattle.std.specs.Prelude.{◌≡◌, ◌≤◌, ℕ, List, length, map, string_bytes, None, Ok};
 ghost use Rattle.pl_io.specs.Outside.{Agrees, fault_count};
-ghost use Rattle.input_files.specs.Files.{NotesAmong};
+ghost use Rattle.plan_tasks.specs.Files.{NotesAmong};
 ghost use Rattle.containers.specs.Limits.{most_bytes};
 ghost use Rattle.judge_top.specs.Requested.{requested, command_named};
 ghost use Rattle.judge_top.specs.Seen.{seen, horizon_of};
@@ -12,10 +12,10 @@ ghost use Rattle.horizon_rates.specs.Limits.{last_horizon};
 use crate::answer::{answer_formula, answer_judge, answer_model};
 use crate::verdict::open;
 use crate::{Ended, Request};
-use input_files::parts::two_of;
-use input_files::take::take_all;
-use pl_io::{Bytes, Shelf, TakeError, Tape};
+use pl_io::{Shelf, TakeError, Tape};
+use plan_endings::File;
 use plan_endings::stop::Stop;
+use plan_tasks::take::{Names, take_all};
 use requests::{Stepping, read_words};
 use std::alloc::Global;
 use std::thread::Threads;
@@ -60,12 +60,14 @@ fn decide_request<H: Threads + Sync, S: Shelf, T: Tape>(
     ensures noted { NotesAmong (two_of (seen request.now)) (S.failed shelf.old) (S.failed shelf.new) }
     ensures tape_faults { T.faults tape.old ≤ T.faults tape.new }
 {
-    let both = requests::Request::Ground {
+    let names = Names {
         domain: request.domain(),
         problem: request.problem(),
+        third: None,
     };
-    let files = take_all::<Bytes, S>(alloc, &both, shelf)?;
-    let (first, second) = two_of(&both, files.as_slice());
+    let files = take_all(alloc, names, File::Proof, shelf)?;
+    let first = files.domain.as_slice();
+    let second = files.problem.as_slice();
     answer(rt, alloc, request, first, second, tape)
 }
 

@@ -14,6 +14,7 @@ pub struct Trail {
 
 impl Model for Trail {
     ghost use Rattle.std.specs.Prelude.{◌≡◌, ◌≤◌, ◌*◌, length};
+    ghost use Rattle.gt_core.specs.Limits.{most_facts};
     ghost use Rattle.never_check.specs.Trail.{Reached, ArePlaced};
 
     ghost Value = { Reached };
@@ -37,7 +38,6 @@ impl Drop for Trail {
 ghost use Rattle.std.specs.Prelude.{◌≡◌, ◌<◌, length};
 ghost use Rattle.gt_core.specs.Literal.{is_in};
 ghost use Rattle.never_check.specs.Trail.{ArePlaced};
-ghost use Rattle.gt_core.specs.Limits.{most_facts};
 
 /// Whether a literal stands among others, at its place.
 fn stands(places: &[u32], literals: &[u32], lit: u32) -> bool
@@ -51,6 +51,7 @@ fn stands(places: &[u32], literals: &[u32], lit: u32) -> bool
 
 impl Trail {
     ghost use Rattle.std.specs.Prelude.{◌≡◌, ◌<◌, ◌≤◌, ◌*◌, ◌++◌, ◌∷◌, [], take, false, length, slice_index, IfOk, OnOk, OnErr};
+    ghost use Rattle.gt_core.specs.Limits.{most_facts};
     ghost use Rattle.gt_core.specs.Literal.{is_in};
     ghost use Rattle.never_check.specs.Trail.{Reached};
 

@@ -1,9 +1,12 @@
 -- What sets of clauses and weights are good for: no actions lead to the goal, however many.
-use Rattle.std.specs.Prelude.{ℕ, List, []}
+use Rattle.std.specs.Prelude.{◌≡◌, ℕ, List, [], Bool, true}
+use Rattle.gt_core.specs.Literal.{holds}
 use Rattle.gt_core.specs.Task.{Task}
+use Rattle.gt_core.specs.Interference.{Knows}
 use Rattle.gt_core.specs.Laws.{HasNoRun}
 use Rattle.gt_core.specs.Reached.{HoldsWherever}
-use Rattle.never_defs.specs.Sets.{IsForwardSet, IsBackwardSet, AreWeights}
+use Rattle.never_defs.specs.Sets.{AreTrue, IsForwardSet, IsBackwardSet, AreWeights}
+use Rattle.never_defs.specs.Propagation.{IsRefuted}
 use Rattle.never_defs.specs.Forward.{IsForwardCertificate, GoalPassesForward}
 use Rattle.never_defs.specs.Backward.{IsBackwardCertificate}
 use Rattle.never_defs.specs.Weights.{AreWeightsCertified}
@@ -35,3 +38,9 @@ WeightsHaveNoRun = (task : Task) (known : List (ℕ × ℕ)) (weights : List (�
 -- where the goal is hopeless, or refuted by the known clauses alone, the set without a clause passes the check
 abbrev pub NothingIsNeeded : Type 0
 NothingIsNeeded = (task : Task) (known : List (ℕ × ℕ)) → GoalPassesForward task known [] → IsForwardCertificate task known []
+
+-- no state in which the clauses hold has all literals of what is refuted
+abbrev pub RefutedNeverHolds : Type 0
+RefutedNeverHolds =
+    (known : List (ℕ × ℕ)) (clauses : List (List ℕ)) (base s : ℕ → Bool)
+    → Knows known s → AreTrue s clauses → ((l : ℕ) → base l ≡ true → holds s l ≡ true) → IsRefuted known clauses base → ⊥

@@ -1,6 +1,6 @@
 //! What sets of clauses and weights are good for, as a contract.
 
-ghost use Rattle.never_defs.specs.Laws.{ForwardCertificatesHold, BackwardCertificatesHold, CertifiedWeightsHold, ForwardSetHasNoRun, BackwardSetHasNoRun, WeightsHaveNoRun, NothingIsNeeded};
+ghost use Rattle.never_defs.specs.Laws.{ForwardCertificatesHold, BackwardCertificatesHold, CertifiedWeightsHold, ForwardSetHasNoRun, BackwardSetHasNoRun, WeightsHaveNoRun, NothingIsNeeded, RefutedNeverHolds};
 
 /// The laws of sets of clauses and of weights. It does nothing.
 pub fn laws()
@@ -11,4 +11,5 @@ pub fn laws()
     ensures backward_set { BackwardSetHasNoRun }
     ensures weights_set { WeightsHaveNoRun }
     ensures nothing { NothingIsNeeded }
+    ensures refuted { RefutedNeverHolds }
 {}

@@ -38,17 +38,18 @@ use Rattle.requests.specs.declared.request.Show.{Show}
 use Rattle.requests.specs.declared.request.Show.TheVariants as shows
 use Rattle.plan_endings.specs.declared.ending.Ending.{Ending}
 use Rattle.plan_endings.specs.declared.ending.Ending.TheVariants.{Report, Listing, Refused, TooLong, TooLarge, ReadFault}
-use Rattle.input_files.specs.Limits.{AreShort, most_of, third_of, file_at}
-use Rattle.input_files.specs.Files.{IsFront, AreOf, StopsFrom}
-use Rattle.input_files.proofs.published.Taking.{taken_short}
-use Rattle.input_files.proofs.published.Hearing.{front_long, whole_is, taken_are, of_front}
+use Rattle.plan_tasks.specs.Limits.{AreShort, most_of, file_in}
+use Rattle.commands.specs.Files.{third_of, file_at}
+use Rattle.plan_tasks.specs.Files.{IsFront, AreOf, StopsFrom}
+use Rattle.plan_tasks.proofs.published.Taking.{taken_short}
+use Rattle.plan_tasks.proofs.published.Hearing.{front_long, whole_is, taken_are, of_front}
 use Rattle.gt_core.specs.Published.{IsPublished}
-use Rattle.certificates.specs.Known.{IsOrdered, HasTooMany, form_of, choice_at, formula_at}
-use Rattle.certificates.specs.Proved.{proved_of}
-use Rattle.certificates.specs.Judged.{IsJudged}
-use Rattle.certificates.specs.declared.verify.Judged.{Judged}
-use Rattle.certificates.specs.declared.verify.Judged.TheVariants as judged
-use Rattle.plan_claims.specs.Laws.{Laws}
+use Rattle.commands.specs.Known.{IsOrdered, HasTooMany, form_of, choice_at, formula_at}
+use Rattle.commands.specs.Proved.{proved_of}
+use Rattle.commands.specs.Judged.{IsJudged}
+use Rattle.commands.specs.declared.verify.Judged.{Judged}
+use Rattle.commands.specs.declared.verify.Judged.TheVariants as judged
+use Rattle.plan_top.specs.Laws.{Laws}
 use Rattle.requests.specs.declared.request.Stepping.{Stepping}
 use Rattle.requests.specs.declared.request.Stepping.TheVariants.{Exists}
 use Rattle.commands.specs.Stepping.{places_by, is_plan_by}
@@ -242,19 +243,16 @@ cause_of request took old new files end of count has (decided taken are answer h
     inr (subst (AreShort (file_at request) 0) same (taken_short (file_at request) 0 (files_of request) took taken are), subst (λ (fs : List (List ℕ)). Decides request fs end) same h)
 
 -- the same by what the files after the first two are
-abbrev file_by : File → ℕ → File
-file_by third place = if place == 0 then Domain else if place == 1 then Problem else third
-
 abbrev IsCauseBy : File → Seen → List (List ℕ) → Ending → Type 0
-IsCauseBy third request files end = LongFrom (file_by third) 0 files end ⊎ (AreShort (file_by third) 0 files × Decides request files end)
+IsCauseBy third request files end = LongFrom (file_in third) 0 files end ⊎ (AreShort (file_in third) 0 files × Decides request files end)
 
 one_cause : (r q : Seen) (files : List (List ℕ)) (x y : Ending) → third_of q ≡ third_of r → (Decides r files x → Decides q files y → x ≡ y) → IsCause r files x → IsCause q files y → x ≡ y
 one_cause r q files x y third one mine other = step mine (subst (λ (t : File). IsCauseBy t q files y) third other)
   where
     step : IsCauseBy (third_of r) r files x → IsCauseBy (third_of r) q files y → x ≡ y
-    step (inl a) (inl b) = one_long (file_by (third_of r)) 0 files x y a b
-    step (inl a) (inr b) = absurd (not_long (file_by (third_of r)) 0 files x a b.0)
-    step (inr a) (inl b) = absurd (not_long (file_by (third_of r)) 0 files y b a.0)
+    step (inl a) (inl b) = one_long (file_in (third_of r)) 0 files x y a b
+    step (inl a) (inr b) = absurd (not_long (file_in (third_of r)) 0 files x a b.0)
+    step (inr a) (inl b) = absurd (not_long (file_in (third_of r)) 0 files y b a.0)
     step (inr a) (inr b) = one a.1 b.1
 
 -- ---- requests of one task

@@ -11,7 +11,6 @@ use crate::parts::{Run, parts_of};
 use crate::races::raced_all;
 use commands::reported::reported;
 use horizon_rates::Settings;
-use input_files::first::take_first;
 use pl_io::Bytes;
 use plan_endings::Growing;
 use plan_endings::stop::Stop;
@@ -95,7 +94,7 @@ fn part_from(end: Option<Ending>, others: &mut Vec<Ending>) -> Ending
 {
     match end {
         Some(end) => end,
-        None => take_first(others),
+        None => others.remove(0),
     }
 }
 

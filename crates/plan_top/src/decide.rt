@@ -4,17 +4,17 @@ ghost use Rattle.pl_io.specs.Outside.{Heard, Agrees, fault_count};
 ghost use Rattle.requests.specs.OneTask.{IsOfOne};
 ghost use Rattle.requests.specs.Requested.{requested, command_named};
 ghost use Rattle.requests.specs.Seen.{IsSized, files_of, seen};
-ghost use Rattle.input_files.specs.Files.{NotesAmong};
+ghost use Rattle.plan_tasks.specs.Files.{NotesAmong};
 ghost use Rattle.plan_top.specs.Causes.{Comes, AskForBatch, names_in};
 ghost use Rattle.plan_endings.specs.Ends.{EndsAs};
 
 use crate::Ending;
 use crate::batch::answer_batch;
-use commands::answer::answer;
-use input_files::first::take_first;
-use input_files::take::take_all;
-use pl_io::{Bytes, Shelf};
+use commands::answer::{answer, names_of, third_of};
+use commands::generated::answer_gen;
+use pl_io::Shelf;
 use plan_endings::stop::Stop;
+use plan_tasks::take::{take_all, take_batch};
 use poll_batch::Driver;
 use requests::{Request, read_words};
 use solver_pool::Gate;
@@ -68,25 +68,24 @@ fn decide_request<H: Threads + Wait + Sync, S: Shelf, G: Gate, D: Driver>(
 {
     match request {
         Request::Batch {
+            domain,
+            problems,
             settings,
             turns,
-            ..
         } => {
-            let mut files = take_all::<Option<Bytes>, S>(alloc, request, shelf)?;
-            let domain = take_first(&mut files);
-            answer_batch(
-                rt,
-                alloc,
-                driver,
-                &domain,
-                files.as_slice(),
-                settings,
-                *turns,
-            )
+            let files = take_batch(alloc, domain, problems.as_slice(), shelf)?;
+            let problems = files.problems.as_slice();
+            answer_batch(rt, alloc, driver, &files.domain, problems, settings, *turns)
         }
+        Request::Gen {
+            kind,
+            number,
+            settings,
+            show,
+        } => answer_gen(rt, alloc, *kind, *number, *show, settings, gate),
         _ => {
-            let texts = take_all::<Bytes, S>(alloc, request, shelf)?;
-            answer(rt, alloc, request, &texts, gate)
+            let files = take_all(alloc, names_of(request), third_of(request), shelf)?;
+            answer(rt, alloc, request, &files, gate)
         }
     }
 }

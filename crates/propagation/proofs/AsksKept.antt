@@ -1,17 +1,17 @@
 -- What the members of a set ask for, as the set, the trail and the clauses change.
 use Rattle.std.proofs.Common.{arith, ◌≡◌, ◌==◌, ℕ, ◌*◌, ◌<◌, ◌≤◌, List, [], ◌∷◌, ◌++◌, length, set, get_or, Bool, true, false, not, ◌||◌, ◌&&◌, ◌⊎◌, refl, sym, ap}
-use Rattle.std.proofs.Common.{◌∙◌, subst, inl, inr, length-set, get_or-set_same, get_or-set_other}
+use Rattle.std.proofs.Common.{◌∙◌, subst, Option, Some, inl, inr, length-set, get_or-set_same, get_or-set_other}
 use Rattle.std.proofs.lemmas.List.{length_push}
 use Rattle.clause_base.specs.Clause.{has_literal}
 use Rattle.cdcl_defs.specs.State.{clause_at}
 use Rattle.bit_sets.specs.Layered.{words_have}
 use Rattle.propagation.specs.declared.pending.Pending.{Pending}
 use Rattle.propagation.specs.declared.enter.Entered.{Entered}
-use Rattle.propagation.specs.own.Asks.{IsAsk, IsWithin, HasAsks, IsPut, IsWider, IsWithout}
+use Rattle.propagation.specs.own.Asks.{IsAsk, IsWithin, HasAsks, IsPut, IsWider, IsWithoutOne}
 use Rattle.propagation.specs.own.Added.{IsRaised}
 use Rattle.propagation.proofs.published.Assigns.{equal_of, apart_of, true_longer}
 use Rattle.propagation.proofs.published.Adds.{at_other, at_own}
-use Rattle.propagation.proofs.Asks.{ask_longer}
+use Rattle.propagation.proofs.Asks.{ask_longer, cleaned_fewer}
 
 within_insert : (n number : ℕ) (was is : ℕ → Bool) → number < n → IsWithin n was → ((k : ℕ) → is k ≡ (k == number || was k)) → IsWithin n is
 within_insert n number was is inside w has k h = by (k == number) refl (sym (has k) ∙ h)
@@ -106,18 +106,30 @@ asks_add cl k trail number entered old new a e room long (inl r) is =
 asks_add cl k trail number entered old new a e room long (inr r) is =
     subst (λ (p : Pending). HasAsks (cl ++ k ∷ []) trail p) (sym r.1) (asks_more cl k trail old a (omega (arith, e, room)) (omega (arith, e, long)))
 
--- without the member that asks for a literal all others are there
-pub cleaned_others : (was is : ℕ → Bool) (asks : List ℕ) (n ask : ℕ) → ((k : ℕ) → is k ≡ (not (k == n) && was k)) → get_or asks n 0 ≡ ask → (k : ℕ)
-    → was k ≡ true → (is k ≡ true) ⊎ (get_or asks k 0 ≡ ask)
-cleaned_others was is asks n ask has own k h = by (k == n) refl
+-- without one member all others are there
+pub cleaned_others : (was is : ℕ → Bool) (n : ℕ) → ((k : ℕ) → is k ≡ (not (k == n) && was k)) → (k : ℕ) → was k ≡ true → (is k ≡ true) ⊎ (Some n ≡ Some k)
+cleaned_others was is n has k h = by (k == n) refl
   where
-    by : (b : Bool) → (k == n) ≡ b → (is k ≡ true) ⊎ (get_or asks k 0 ≡ ask)
-    by true f = inr (ap (λ (i : ℕ). get_or asks i 0) (equal_of k n f) ∙ own)
+    by : (b : Bool) → (k == n) ≡ b → (is k ≡ true) ⊎ (Some n ≡ Some k)
+    by true f = inr (ap (λ (i : ℕ). Some i) (sym (equal_of k n f)))
     by false f = inl (has k ∙ ap (λ (b : Bool). not b && was k) f ∙ h)
 
--- those that ask for a literal may be gone
-pub asks_without : (cl : List (List ℕ)) (trail : List ℕ) (x : ℕ) (old new : Pending) → HasAsks cl trail old → IsWithout x old new → HasAsks cl trail new
-asks_without cl trail x old new a w = record {
+-- a set as it was, and one without its least member
+pub without_none : (reason : Option ℕ) (p : Pending) → IsWithoutOne reason p p
+without_none reason p = record { fewer = λ k h. h; others = λ k h. inl h; asks = refl; room = refl }
+
+pub without_least : (n : ℕ) (p : Pending) (words : List ℕ) → ((k : ℕ) → words_have words k ≡ (not (k == n) && words_have p.numbers k))
+    → length words ≡ length p.numbers → IsWithoutOne (Some n) p (record p { numbers = words })
+without_least n p words has room = record {
+  fewer = cleaned_fewer (words_have p.numbers) (words_have words) n has;
+  others = cleaned_others (words_have p.numbers) (words_have words) n has;
+  asks = refl;
+  room = room;
+}
+
+-- one of them may be gone
+pub asks_without : (cl : List (List ℕ)) (trail : List ℕ) (reason : Option ℕ) (old new : Pending) → HasAsks cl trail old → IsWithoutOne reason old new → HasAsks cl trail new
+asks_without cl trail reason old new a w = record {
   within = λ k h. a.within k (w.fewer k h);
   are = λ k h. subst (λ (xs : List ℕ). IsAsk (has_literal trail) (clause_at cl k) (get_or xs k 0)) (sym w.asks) (a.are k (w.fewer k h));
   room = omega (arith, a.room, w.room);

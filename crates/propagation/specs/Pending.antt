@@ -3,6 +3,7 @@ use Rattle.std.specs.Prelude.{◌≡◌, ℕ, ◌+◌, ◌<◌, ◌≤◌, List,
 use Rattle.clause_base.specs.Literal.{opposite}
 use Rattle.clause_base.specs.Clause.{has_literal}
 use Rattle.cdcl_defs.specs.declared.trail.Assigned.{Assigned}
+use Rattle.cdcl_defs.specs.State.{clause_at}
 use Rattle.cdcl_defs.specs.Pending.{open_ones, is_pending_in}
 
 -- a literal is not false, where these are true
@@ -40,3 +41,7 @@ pub record PropagatorView : Type 0 where
   pub clauses : List (List ℕ)
   pub kept : List Bool
   pub entries : List Assigned
+
+-- the clause that forced an entry has its literal
+abbrev pub HasOwn : List (List ℕ) → Assigned → Type 0
+HasOwn clauses a = MatchOption a.reason (Unit {0}) (λ n. has_literal (clause_at clauses n) a.literal ≡ true)

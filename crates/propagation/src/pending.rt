@@ -1,7 +1,7 @@
 //! Which clauses may be pending, and what each of them asks for.
-ghost use Rattle.std.specs.Prelude.{◌≡◌, ℕ, ◌*◌, ◌<◌, ◌≤◌, length, true, false, slice_index, IfOk, OnOk};
+ghost use Rattle.std.specs.Prelude.{◌≡◌, ℕ, ◌*◌, ◌<◌, ◌≤◌, length, true, false, Some, slice_index, IfOk, OnOk};
 ghost use Rattle.bit_sets.specs.Layered.{words_have};
-ghost use Rattle.propagation.specs.own.Asks.{IsLeastAsking, IsPut, IsWider, IsWithin, IsWithout};
+ghost use Rattle.propagation.specs.own.Asks.{IsPut, IsWider, IsWithoutOne};
 
 use crate::room::fit_asks;
 use bit_sets::first::First;
@@ -109,28 +109,16 @@ impl Pending {
         self.numbers.insert(number);
     }
 
-    /// Whether the least clause of the set asks for a literal.
+    /// Takes the least clause from the set, if it has this number.
     #[inline(always)]
-    fn is_asking(&self, lit: Lit) -> bool
-        requires { IsWithin (length self.now.asks.items) (words_have self.now.numbers) }
-        ensures { result ≡ true → IsLeastAsking lit self.now }
+    pub fn take_least(&mut self, number: u32)
+        ensures { IsWithoutOne (Some number) self.old self.new }
     {
-        match self.numbers.least() {
-            None => false,
-            Some(number) => self.asks[number as usize] == lit.0,
+        if let Some(least) = self.numbers.least() {
+            if least == number {
+                self.numbers.remove_least();
+            }
         }
-    }
-
-    /// Takes the least clause from the set, if it asks for a literal.
-    #[inline(always)]
-    pub fn take_asking(&mut self, lit: Lit)
-        requires { IsWithin (length self.old.asks.items) (words_have self.old.numbers) }
-        ensures { IsWithout lit self.old self.new }
-    {
-        if !self.is_asking(lit) {
-            return;
-        }
-        self.numbers.remove_least();
     }
 
     /// Makes room for a clause, where there is room for all before it.

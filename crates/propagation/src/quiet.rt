@@ -2,9 +2,14 @@
 //! the trail is taken back to one of them.
 ghost use Rattle.std.specs.Prelude.{◌≡◌, ℕ, ◌+◌, ◌*◌, ◌<◌, ◌≤◌, length, false, slice_index_or, OnOk};
 ghost use Rattle.propagation.specs.own.Added.{IsRaised};
+ghost use Rattle.propagation.specs.own.Asks.{IsFlagged, IsWithoutOne};
 
 use crate::enter::Entered;
 use crate::pending::Pending;
+use bit_sets::first::First;
+use bit_sets::flat::Flat;
+use bit_sets::layer::Layer;
+use bit_sets::set::NumberSet;
 use cdcl_tables::assignment::Assignment;
 use containers::memory::Memory;
 
@@ -43,6 +48,27 @@ pub fn raise(
     }
     unquiet(quiet, entered.low, length);
     pending.put(number, entered.ask);
+}
+
+/// Writes whether nothing is pending at a length of the trail, where a literal becomes true there for a reason or by a decision. The clause
+/// that forces it is the least of the set, and is pending no more: without it the set is mostly empty, so that the next one that enters is
+/// the least. The solver takes its trail back to lengths at which a decision was made, so that the flag of no other is worked out.
+#[inline(always)]
+pub fn leave(quiet: &mut Vec<bool>, at: u32, pending: &mut Pending, reason: Option<u32>)
+    requires { at < length quiet.old.items }
+    ensures flagged { IsFlagged at pending.old quiet.old.items quiet.new.items }
+    ensures without { IsWithoutOne reason pending.old pending.new }
+{
+    match reason {
+        Some(number) => {
+            quiet[at as usize] = false;
+            pending.take_least(number);
+        }
+        None => {
+            let least = pending.numbers.least();
+            quiet[at as usize] = least.is_none();
+        }
+    }
 }
 
 /// Makes the flags of the lengths of an empty trail over so many variables: there is none below the whole one, so that they are free.

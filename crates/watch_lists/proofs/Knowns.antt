@@ -6,7 +6,7 @@ use Rattle.clause_base.specs.Clause.{has_literal}
 use Rattle.cdcl_defs.specs.declared.trail.Assigned.{Assigned}
 use Rattle.cdcl_defs.specs.Pending.{is_pending_in}
 use Rattle.cdcl_tables.specs.Assignment.{literals}
-use Rattle.propagation.specs.declared.known.Known.{Known}
+use Rattle.propagation.specs.declared.known.PendingUpTo.{PendingUpTo}
 use Rattle.propagation.specs.Known.{AreListed}
 use Rattle.propagation.specs.Pending.{PropagatorView}
 use Rattle.propagation.proofs.published.Adds.{pending_other}
@@ -15,7 +15,7 @@ use Rattle.propagation.proofs.published.Removes.{pending_before}
 use Rattle.watch_lists.specs.own.Known.{AreKnown, IsKnown, known_at}
 
 -- a length has the same entries on another trail
-same_known : (p : PropagatorView) (entries : List Assigned) (n : ℕ) (k : Known) → take n entries ≡ take n p.entries → IsKnown p n k
+same_known : (p : PropagatorView) (entries : List Assigned) (n : ℕ) (k : PendingUpTo) → take n entries ≡ take n p.entries → IsKnown p n k
     → IsKnown (record p { entries = entries }) n k
 same_known p entries n k e i = record {
   below = i.below;
@@ -23,7 +23,7 @@ same_known p entries n k e i = record {
 }
 
 -- nothing has to be known of a trail without entries
-pub known_new : (p : PropagatorView) (variables : ℕ) (clauses : List (List ℕ)) (known : List Known)
+pub known_new : (p : PropagatorView) (variables : ℕ) (clauses : List (List ℕ)) (known : List PendingUpTo)
     → p ≡ record { variables = variables; clauses = clauses; kept = replicate (length clauses) true; entries = [] } → length known ≡ variables + 1
     → AreKnown p known
 known_new p variables clauses known e size =
@@ -36,7 +36,7 @@ known_new p variables clauses known e size =
     }
 
 -- what is known of the whole trail is known of its length once one entry more is there
-pub known_push : (p p' : PropagatorView) (known : List Known) (here : Known) (a : Assigned) → AreKnown p known → length p.entries < length known
+pub known_push : (p p' : PropagatorView) (known : List PendingUpTo) (here : PendingUpTo) (a : Assigned) → AreKnown p known → length p.entries < length known
     → here.from ≤ length p.clauses → AreListed (is_pending_in p.clauses p.kept (has_literal (literals p.entries))) here.numbers here.from
     → p' ≡ record p { entries = p.entries ++ a ∷ [] } → AreKnown p' (set known (length p.entries) here)
 known_push p p' known here a i room below listed e = subst (λ (q : PropagatorView). AreKnown q (set known (length p.entries) here)) (sym e) (record {
@@ -52,7 +52,7 @@ known_push p p' known here a i room below listed e = subst (λ (q : PropagatorVi
           (sym (take_all (length p.entries) p.entries (omega arith))) listed;
     }
 
-    longer : (n : ℕ) (k : Known) → n ≤ length p.entries → IsKnown p n k → IsKnown (record p { entries = p.entries ++ a ∷ [] }) n k
+    longer : (n : ℕ) (k : PendingUpTo) → n ≤ length p.entries → IsKnown p n k → IsKnown (record p { entries = p.entries ++ a ∷ [] }) n k
     longer n k h = same_known p (p.entries ++ a ∷ []) n k (take-append-le n p.entries (a ∷ []) h)
 
     by : (n : ℕ) → n ≤ length p.entries → (b : Bool) → (n == length p.entries) ≡ b
@@ -71,7 +71,7 @@ pub pushed : (p q r : PropagatorView) (a : Assigned) → q ≡ p → r ≡ recor
 pushed p q r a s e = e ∙ ap (λ (x : PropagatorView). let y : PropagatorView = record x { entries = x.entries ++ a ∷ [] } in y) s
 
 -- the trail goes back
-pub known_cut : (p p' : PropagatorView) (known : List Known) (m : ℕ) → AreKnown p known → m < length p.entries
+pub known_cut : (p p' : PropagatorView) (known : List PendingUpTo) (m : ℕ) → AreKnown p known → m < length p.entries
     → p' ≡ record p { entries = take m p.entries } → AreKnown p' known
 known_cut p p' known m i h e = subst (λ (q : PropagatorView). AreKnown q known) (sym e) (record {
   kept = i.kept;
@@ -82,7 +82,7 @@ known_cut p p' known m i h e = subst (λ (q : PropagatorView). AreKnown q known)
 })
 
 -- a clause more is there
-pub known_add : (p p' : PropagatorView) (known : List Known) (clause : List ℕ) → AreKnown p known
+pub known_add : (p p' : PropagatorView) (known : List PendingUpTo) (clause : List ℕ) → AreKnown p known
     → p' ≡ record p { clauses = p.clauses ++ clause ∷ []; kept = p.kept ++ true ∷ [] } → AreKnown p' known
 known_add p p' known clause i e = subst (λ (q : PropagatorView). AreKnown q known) (sym e) (record {
   kept = omega (arith, i.kept, length_push p.kept true, length_push p.clauses clause);
@@ -97,7 +97,7 @@ known_add p p' known clause i e = subst (λ (q : PropagatorView). AreKnown q kno
 })
 
 -- a clause is no longer kept
-pub known_remove : (p p' : PropagatorView) (known : List Known) (number : ℕ) → AreKnown p known
+pub known_remove : (p p' : PropagatorView) (known : List PendingUpTo) (number : ℕ) → AreKnown p known
     → p' ≡ record p { kept = set p.kept number false } → AreKnown p' known
 known_remove p p' known number i e = subst (λ (q : PropagatorView). AreKnown q known) (sym e) (record {
   kept = length-set p.kept number false ∙ i.kept;
@@ -111,5 +111,5 @@ known_remove p p' known number i e = subst (λ (q : PropagatorView). AreKnown q 
 })
 
 -- nothing changes
-pub known_same : (p p' : PropagatorView) (known : List Known) → p' ≡ p → AreKnown p known → AreKnown p' known
+pub known_same : (p p' : PropagatorView) (known : List PendingUpTo) → p' ≡ p → AreKnown p known → AreKnown p' known
 known_same p p' known e i = subst (λ (q : PropagatorView). AreKnown q known) (sym e) i

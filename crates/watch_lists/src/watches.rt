@@ -13,7 +13,7 @@ use clause_base::formula::Formula;
 use clause_base::literal::Lit;
 use containers::memory::Memory;
 use containers::{SharedListOf, let_go};
-use propagation::known::Known;
+use propagation::known::PendingUpTo;
 use propagation::propagator::Propagator;
 use std::alloc::Global;
 use std::marker::Model;
@@ -26,7 +26,7 @@ pub struct Watches {
     first: Option<Event>,
     /// For each length of the trail below the whole one which clauses are pending there, of those that there were when it had that
     /// length: no others are looked at where it is taken back to it.
-    known: Vec<Known>,
+    known: Vec<PendingUpTo>,
 }
 
 impl Model for Watches {
@@ -68,11 +68,11 @@ fn number_in(event: &Event) -> Option<u32>
 }
 
 /// For each length of the trail up to the whole one, that any clauses may be pending there.
-fn none_known(alloc: Global, variables: u32) -> Result<Vec<Known>, Memory>
+fn none_known(alloc: Global, variables: u32) -> Result<Vec<PendingUpTo>, Memory>
     requires { variables ≤ 2147483647 }
     ensures { IfOk result (λ known. length known.items ≡ variables + 1) }
 {
-    Ok(vec![in alloc; Known::none_below(0); variables as usize + 1]?)
+    Ok(vec![in alloc; PendingUpTo::none_below(0); variables as usize + 1]?)
 }
 
 impl Watches {
@@ -129,7 +129,7 @@ impl Watches {
         self.known[length as usize] = known;
         self.propagator.assign(Assigned {
             literal: lit,
-            reason: Some(0),
+            reason: None,
         });
         self.first = self.propagator.next();
     }

@@ -1,6 +1,6 @@
 -- The pairs of a literal as five lists: those of the told clauses, of the step that ends and of the step that begins where a
 -- fact is, of its time, and of the clauses after all of these.
-use Rattle.std.specs.Prelude.{◌≡◌, ℕ, ◌+◌, ◌-◌, ◌*◌, ◌/◌, ◌%◌, ◌<◌, ◌≤◌, nat_lt, if◌then◌else◌, List, [], ◌++◌, map, length, All}
+use Rattle.std.specs.Prelude.{◌≡◌, ℕ, ◌+◌, ◌-◌, ◌*◌, ◌/◌, ◌%◌, ◌<◌, ◌≤◌, nat_lt, if◌then◌else◌, List, [], ◌++◌, map, length, Bool, true, All}
 use Rattle.std.specs.List.{range_with_len}
 use Rattle.clause_base.specs.declared.pair.Pair.{Pair}
 use Rattle.cdcl_tables.specs.declared.list.Move.{Move}
@@ -80,6 +80,8 @@ pub record IsShape (z : Shape) : Type 0 where
   pub before : z.before ≡ after_all z
   pub begin : z.facts_begin ≡ facts_begin z
   pub end : z.facts_end ≡ facts_end z
+  pub step_codes : z.step_codes ≡ 2 * z.width
+  pub time_codes : z.time_codes ≡ 2 * z.facts
 
 -- the pairs of a table have codes and numbers below these
 pub record AreWithin (codes count : ℕ) (table : List (List Pair)) : Type 0 where
@@ -106,6 +108,10 @@ pub record AreParts (z : Shape) (told step time after : List (List ℕ)) : Type 
   pub step_below : All (All (λ l. l < 2 * (z.width + 2 * z.facts))) step
   pub time_below : All (All (λ l. l < 2 * z.facts)) time
   pub below : All (All (λ l. l < 2 * z.variables)) (clauses_of z told step time after)
+
+-- where it is so, no clause of two literals is told, and none comes after those of all times
+abbrev pub ArePlain : Bool → (told after : List (List Pair)) → Type 0
+ArePlain plain told after = plain ≡ true → (x : ℕ) → (pairs_of told x ≡ []) × (pairs_of after x ≡ [])
 
 -- the tables of a formula's parts: their pairs are of the variables and clauses of each part, so that they are moved without a test
 pub record AreTables (z : Shape) (told step time after : List (List Pair)) : Type 0 where

@@ -1,12 +1,11 @@
 use Rattle.std.proofs.Common.{arith, ◌≡◌, ◌≢◌, ◌==◌, ℕ, zero, suc, ◌+◌, ◌-◌, ◌*◌, ◌/◌, ◌%◌, ◌<◌, ◌≤◌, List, [], ◌∷◌, ◌++◌, length, take, set, get_or}
-use Rattle.std.proofs.Common.{leb, Bool, true, false, not, ◌||◌, ◌&&◌, if◌then◌else◌, refl, sym, ap, ◌∙◌, subst, ◌⊎◌, inl, inr, Option, Some, None}
+use Rattle.std.proofs.Common.{leb, Bool, true, false, not, ◌||◌, ◌&&◌, if◌then◌else◌, refl, sym, ap, ◌∙◌, subst, ◌⊎◌, inl, inr, None}
 use Rattle.std.proofs.Common.{length-append, get_or-set_same, get_or-set_other}
 use Rattle.std.specs.List.{list_any, filter}
 use Rattle.std.proofs.lemmas.Bool.Decides.{nat_tests}
 use Rattle.std.proofs.lemmas.List.{take-append-le, take_all, get_or_past}
 use Rattle.clause_base.specs.Literal.{opposite}
 use Rattle.clause_base.specs.Clause.{has_literal}
-use Rattle.std.specs.Option.{is_some}
 use Rattle.bit_sets.specs.Layered.{IsLeast}
 use Rattle.cdcl_tables.proofs.published.Assignments.{has-snoc}
 use Rattle.cdcl_tables.specs.declared.chains.Node.{Node}
@@ -296,22 +295,18 @@ none_pending p s complete none k = by (p k) refl
     by false e = refl
 
 -- the quiet lengths of a longer trail
-pub assign_quiets : (cl : List (List ℕ)) (kept : List Bool) (trail : List ℕ) (x : ℕ) (quiet : List Bool) (len : ℕ) (o : Option ℕ) (b : Bool) (s : ℕ → Bool)
-    → len ≡ length trail → len < length quiet → IsLeast s o → is_some o ≡ not b → ((k : ℕ) → is_pending_on cl kept trail k ≡ true → s k ≡ true)
+pub assign_quiets : (cl : List (List ℕ)) (kept : List Bool) (trail : List ℕ) (x : ℕ) (quiet : List Bool) (len : ℕ) (b : Bool) (s : ℕ → Bool)
+    → len ≡ length trail → len < length quiet → (b ≡ true → IsLeast s None) → ((k : ℕ) → is_pending_on cl kept trail k ≡ true → s k ≡ true)
     → ((n : ℕ) → n < length trail → get_or quiet n false ≡ true → (k : ℕ) → is_pending_on cl kept (take n trail) k ≡ false) → (n : ℕ)
     → n < length (trail ++ x ∷ []) → get_or (set quiet len b) n false ≡ true → (k : ℕ) → is_pending_on cl kept (take n (trail ++ x ∷ [])) k ≡ false
-assign_quiets cl kept trail x quiet len o b s e inside least is complete old n h q k = by (n == len) refl
+assign_quiets cl kept trail x quiet len b s e inside least complete old n h q k = by (n == len) refl
   where
     by : (p : Bool) → (n == len) ≡ p → is_pending_on cl kept (take n (trail ++ x ∷ [])) k ≡ false
     by true f =
         let g : n ≡ len = equal_of n len f in
         let v : b ≡ true = sym (ap (λ (m : ℕ). get_or (set quiet len b) m false) g ∙ get_or-set_same quiet len b false inside) ∙ q in
         let t : take n (trail ++ x ∷ []) ≡ trail = take-append-le n trail (x ∷ []) (omega (arith, g, e)) ∙ take_all n trail (omega (arith, g, e)) in
-        ap (λ (ys : List ℕ). is_pending_on cl kept ys k) t ∙ none_pending (is_pending_on cl kept trail) s complete (at o least (ap (λ (z : Bool). not z) is ∙ ap (λ (z : Bool). not (not z)) v)) k
-      where
-        at : (u : Option ℕ) → IsLeast s u → not (is_some u) ≡ true → IsLeast s None
-        at None l z = l
-        at (Some m) l z = absurd (let w : ⊥ = cc in w)
+        ap (λ (ys : List ℕ). is_pending_on cl kept ys k) t ∙ none_pending (is_pending_on cl kept trail) s complete (least v) k
     by false f =
         let g : n ≢ len = apart_of n len f in
         let nl : n < length trail = omega (arith, h, length-append trail (x ∷ []), g, e) in

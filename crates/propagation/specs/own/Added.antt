@@ -53,6 +53,7 @@ pub record AreWider (l l' : WatchState) : Type 0 where
 pub record AreSame (t t' : Tables) : Type 0 where
   pub store : t'.store ≡ t.store
   pub kept : t'.kept.items ≡ t.kept.items
+  pub kept_below : t'.kept_below ≡ t.kept_below
   pub slots : t'.slots.items ≡ t.slots.items
   pub steps : t'.steps ≡ t.steps
 

@@ -1,5 +1,5 @@
 -- What the clauses of the set ask for: a member has one literal at most that is not false, the one that it asks for.
-use Rattle.std.specs.Prelude.{◌≡◌, ℕ, ◌*◌, ◌<◌, ◌≤◌, ◌==◌, ◌||◌, ◌⊎◌, List, [], length, Bool, true, false, Some, slice_index, slice_set}
+use Rattle.std.specs.Prelude.{◌≡◌, ℕ, ◌*◌, ◌<◌, ◌≤◌, ◌==◌, ◌||◌, ◌⊎◌, List, [], length, Bool, true, false, Option, Some, None, slice_index, slice_set}
 use Rattle.clause_base.specs.Literal.{opposite}
 use Rattle.clause_base.specs.Clause.{has_literal}
 use Rattle.bit_sets.specs.Layered.{IsLeast, words_have}
@@ -47,15 +47,15 @@ pub record IsWider (old new : Pending) : Type 0 where
   pub more_numbers : length old.numbers ≤ length new.numbers
   pub more_asks : length old.asks.items ≤ length new.asks.items
 
--- the least member of a set, which asks for a literal
-pub record IsLeastAsking (ask : ℕ) (p : Pending) : Type 0 where
-  pub number : ℕ
-  pub least : IsLeast (words_have p.numbers) (Some number)
-  pub asks : slice_index p.asks.items number ≡ ask
-
--- members that ask for a literal may be gone from a set, and all others are there
-pub record IsWithout (ask : ℕ) (old new : Pending) : Type 0 where
+-- the member that forced a literal, if any did, may be gone from a set, and all others are there
+pub record IsWithoutOne (reason : Option ℕ) (old new : Pending) : Type 0 where
   pub fewer : (k : ℕ) → words_have new.numbers k ≡ true → words_have old.numbers k ≡ true
-  pub others : (k : ℕ) → words_have old.numbers k ≡ true → (words_have new.numbers k ≡ true) ⊎ (slice_index old.asks.items k ≡ ask)
+  pub others : (k : ℕ) → words_have old.numbers k ≡ true → (words_have new.numbers k ≡ true) ⊎ (reason ≡ Some k)
   pub asks : new.asks.items ≡ old.asks.items
   pub room : length new.numbers ≡ length old.numbers
+
+-- the flag of a length was written, which stands only where the set is empty
+pub record IsFlagged (n : ℕ) (p : Pending) (old new : List Bool) : Type 0 where
+  pub flag : Bool
+  pub is : new ≡ slice_set old n flag
+  pub none : flag ≡ true → IsLeast (words_have p.numbers) None

@@ -12,4 +12,4 @@ returns-clause-shape c = shape_made _ c.args.variables c.args.told.now c.args.pa
   steps = c.count-steps.ensures.value ∙ ap (λ (xs : List (List ℕ)). length xs) c.step.ensures;
   times = c.count-times.ensures.value ∙ ap (λ (xs : List (List ℕ)). length xs) c.time.ensures;
   afters = c.count-afters.ensures.value;
-}) c.requires.small c.requires.fits c.requires.few c.all_steps-all_steps.ensures (ap (λ (k : ℕ). c.count-tolds.result + k) c.count-repeats.ensures.value) refl refl
+}) c.requires.small c.requires.fits c.requires.few c.all_steps-all_steps.ensures (ap (λ (k : ℕ). c.count-tolds.result + k) c.count-repeats.ensures.value) refl refl c.of-step_codes.ensures c.of-time_codes.ensures

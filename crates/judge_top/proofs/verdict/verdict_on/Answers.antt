@@ -1,10 +1,8 @@
-use Rattle.std.proofs.Common.{◌≡◌, ◌<◌, ◌∙◌, ◌++◌, ℕ, List, Ok, length, take, sym, ap, arith, subst}
+use Rattle.std.proofs.Common.{◌≡◌, ◌∙◌, ◌++◌, ℕ, List, Ok, take, ap, arith, subst}
 use Rattle.clause_base.specs.Formula.{Cnf, IsUnsatisfiable}
-use Rattle.pl_io.specs.Tape.{Given}
 use Rattle.lrat_judge.specs.Verdicts.{verdict_of}
 use Rattle.lrat_judge.specs.declared.verdict.Verdict.TheVariants.{Refuted}
-use Rattle.judge_top.specs.Answers.{IsVerdictOn}
-use Rattle.judge_top.proofs.Given.{some_taken, goes_on, verdict_early, verdict_at_end}
+use Rattle.judge_top.proofs.Given.{some_taken, verdict_early, verdict_at_end}
 use Rattle.judge_top.proofs.verdict.verdict_on.Goals as goal
 
 pub returns-in_default-clause-refuted : goal.returns-in_default-clause-refuted
@@ -16,7 +14,7 @@ pub returns-in_default-clause-verdict : goal.returns-in_default-clause-verdict
 returns-in_default-clause-verdict g c front =
     let i = c.reading.invariant in
     let said = c.in_ok-last.ensures.verdict (g.T.Tape.given c.reading.tape).bytes (i.read front) ∙ ap (λ (f : Cnf). verdict_of f (g.T.Tape.given c.reading.tape).bytes) i.formula in
-    verdict_at_end (g.T.Tape.given c.reading.tape) (g.T.Tape.given c.next.new.tape) (i.goes front) (c.next.ensures.end (ap Ok c.in_default.is)) c.args.formula.now c.in_ok-last.last said
+    verdict_at_end (g.T.Tape.given c.reading.tape) (g.T.Tape.given c.next.new.tape) (i.goes front) (c.in_ok-count.ensures.end (ap Ok c.in_default.is)) c.args.formula.now c.in_ok-last.last said
 
 pub returns-in_default-2 : goal.returns-in_default-2
 returns-in_default-2 g c = record {

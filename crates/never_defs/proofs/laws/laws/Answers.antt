@@ -1,3 +1,4 @@
+use Rattle.never_defs.proofs.Truth.{not_refuted}
 use Rattle.never_defs.proofs.ForwardLaw.{forward_hold, nothing_is_needed}
 use Rattle.never_defs.proofs.BackwardLaw.{backward_hold}
 use Rattle.never_defs.proofs.WeightsLaw.{weights_hold}
@@ -24,3 +25,6 @@ returns-clause-weights_set c = weights_have_no_run
 
 pub returns-clause-nothing : goal.returns-clause-nothing
 returns-clause-nothing c = nothing_is_needed
+
+pub returns-clause-refuted : goal.returns-clause-refuted
+returns-clause-refuted c = not_refuted

@@ -2,8 +2,8 @@ use Rattle.std.proofs.Common.{arith, get_or, ℕ, false, ap, sym, ◌∙◌}
 use Rattle.propagation.proofs.Slotted.{flag_at}
 use Rattle.propagation.proofs.slots.is_slot_kept.Goals as goal
 
-pub is_kept-requires : goal.is_kept-requires
-is_kept-requires c = omega (arith, c.number_at.ensures, c.requires.below c.args.slot c.requires.inside)
+pub is_kept-requires-clause-inside : goal.is_kept-requires-clause-inside
+is_kept-requires-clause-inside c = omega (arith, c.number_at.ensures, c.requires.below c.args.slot c.requires.inside)
 
 pub returns : goal.returns
 returns c =

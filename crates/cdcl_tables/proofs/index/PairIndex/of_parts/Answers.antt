@@ -18,6 +18,7 @@ invariant_of-result c =
         time_within = within_of (2 * c.args.shape.facts) c.args.shape.times c.args.time.now (arc_value c.in_ok-time.time) times c.requires.parts.time_below c.in_ok-time.ensures;
         after_within = within_of (2 * c.args.shape.variables) c.args.shape.afters c.args.after.now c.in_ok-after.after afters (all_right (All (λ (l : ℕ). l < 2 * c.args.shape.variables)) rest c.args.after.now (all_right (All (λ (l : ℕ). l < 2 * c.args.shape.variables)) c.args.told.now (rest ++ c.args.after.now) c.requires.parts.below)) c.in_ok-after.ensures;
       },
+      c.are_plain-plain.ensures,
     )
 
 pub returns : goal.returns

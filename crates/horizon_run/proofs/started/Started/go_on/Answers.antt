@@ -1,4 +1,4 @@
-use Rattle.std.proofs.Common.{ap, sym, subst, ◌∙◌}
+use Rattle.std.proofs.Common.{◌≡◌, ap, sym, subst, ◌∙◌}
 use Rattle.horizon_run.specs.Run.{RunView, choice_in, AddsUp}
 use Rattle.horizon_run.specs.own.Held.{run_in, IsOfLaws}
 use Rattle.horizon_run.proofs.Begun.{on-any}
@@ -13,3 +13,8 @@ pub returns-clause-adds_up : goal.returns-clause-adds_up
 returns-clause-adds_up c =
     let same = c.in_ok-run.ensures.made ∙ ap run_in c.take-held.ensures.taken ∙ c.self.view_is in
     on-any _ c.go_on-gone.result (subst (λ (r : RunView). AddsUp (choice_in r) r.formula) same c.go_on-gone.ensures.adds_up)
+
+pub returns-clause-stays : goal.returns-clause-stays
+returns-clause-stays c spoilt =
+    let same : c.in_ok-run.run' ≡ c.args.self.now = c.in_ok-run.ensures.made ∙ ap run_in c.take-held.ensures.taken ∙ c.self.view_is in
+    c.go_on-gone.ensures.stays (ap (λ (r : RunView). r.spoilt) same ∙ spoilt) ∙ same

@@ -1,4 +1,4 @@
-use Rattle.std.proofs.Common.{arith, ◌≡◌, ◌*◌, ◌/◌, ◌++◌, ◌∷◌, [], ℕ, List, ◌∙◌, ap, true, None, get_or, set, length-set, sym, subst}
+use Rattle.std.proofs.Common.{arith, ◌≡◌, ◌*◌, ◌/◌, ◌<◌, ◌++◌, ◌∷◌, [], ℕ, List, Bool, ◌∙◌, ap, true, false, None, length, take, get_or, length-set, sym, subst}
 use Rattle.clause_base.specs.Literal.{opposite}
 use Rattle.clause_base.specs.Clause.{has_literal}
 use Rattle.bit_sets.specs.Layered.{words_have}
@@ -12,7 +12,7 @@ use Rattle.cdcl_tables.proofs.published.Mirrors.{off_of_none, half_opposite}
 use Rattle.clause_base.specs.Pairs.{pairs_of, pair_in}
 use Rattle.propagation.specs.own.Asks.{IsConsistent, HasAsks}
 use Rattle.propagation.specs.Front.{IsComplete}
-use Rattle.propagation.specs.Pending.{PropagatorView}
+use Rattle.propagation.specs.Pending.{HasOwn, PropagatorView}
 use Rattle.propagation.specs.own.Sound.{AreSound}
 use Rattle.propagation.specs.own.Tables.{AreTables, clauses_in, flags_in, pending_in}
 use Rattle.propagation.specs.own.Visit.{slot_set, IsAtRest, IsFit, AreSettled, MovesToFree}
@@ -20,7 +20,7 @@ use Rattle.propagation.proofs.Asks.{consistent_push, last_true}
 use Rattle.propagation.proofs.AsksKept.{asks_longer, asks_without}
 use Rattle.propagation.proofs.published.Assigns.{opposite_twice, assign_complete, assign_free, assign_quiets, whole_free}
 use Rattle.propagation.proofs.Founds.{found_complete}
-use Rattle.propagation.proofs.Gone.{or_gone, gone_more, gone_grows, settled_more, not_gone}
+use Rattle.propagation.proofs.Gone.{or_gone, gone_more, gone_grows, settled_more, not_gone, own_of}
 use Rattle.propagation.proofs.Visits.{two_watched}
 use Rattle.propagation.proofs.Slotted.{slots_long, flags_long, slots_complete}
 use Rattle.propagation.proofs.propagator.Propagator.assign.Goals as goal
@@ -55,11 +55,11 @@ falsified c l op =
     ap (λ (ys : List ℕ). has_literal ys (opposite l)) (told c) ∙ ap (λ (x : ℕ). has_literal (literals w.trail.entries ++ c.args.entry.literal ∷ []) x)
     (ap opposite op ∙ opposite_twice c.args.entry.literal) ∙ last_true (literals w.trail.entries) c.args.entry.literal
 
-pub take_asking-requires : goal.take_asking-requires
-take_asking-requires c k h = omega (arith, c.self.invariant.0.asks.within k h, c.self.invariant.0.asks.long)
+pub leave-requires : goal.leave-requires
+leave-requires c = omega (arith, c.length-length.ensures.short, c.self.invariant.2, c.self.invariant.0.quiet_size)
 
 pub mark_pairs-requires-clause-fit : goal.mark_pairs-requires-clause-fit
-mark_pairs-requires-clause-fit c = subst (λ (n : ℕ). IsFit c.self.inside.tables.store (2 * n))
+mark_pairs-requires-clause-fit c = subst (λ (n : ℕ). IsFit c.self.inside.tables.store.clauses (2 * n))
     (sym (over (goal.at.mark_pairs-requires-clause-fit c).After-assignment-assignment)) c.self.invariant.0.tables.fit
 
 pub mark_pairs-requires-clause-falsified : goal.mark_pairs-requires-clause-falsified
@@ -72,10 +72,10 @@ mark_pairs-requires-clause-exact c = c.self.invariant.1.exact c.falsified.inside
 pub mark_pairs-requires-clause-asks : goal.mark_pairs-requires-clause-asks
 mark_pairs-requires-clause-asks c =
     let w = c.self.inside in
-    let now = c.take_asking.new.self in
-    subst (λ (ys : List ℕ). HasAsks w.tables.store ys now) (sym (told (goal.at.mark_pairs-requires-clause-asks c).After-assignment-assignment))
-    (asks_longer w.tables.store (literals w.trail.entries) c.args.entry.literal now
-    (asks_without w.tables.store (literals w.trail.entries) c.args.entry.literal w.lists.pending now c.self.invariant.0.asks c.take_asking.ensures))
+    let now = c.leave.new.pending in
+    subst (λ (ys : List ℕ). HasAsks w.tables.store.clauses ys now) (sym (told (goal.at.mark_pairs-requires-clause-asks c).After-assignment-assignment))
+    (asks_longer w.tables.store.clauses (literals w.trail.entries) c.args.entry.literal now
+    (asks_without w.tables.store.clauses (literals w.trail.entries) c.args.entry.reason w.lists.pending now c.self.invariant.0.asks c.leave.ensures.without))
 
 pub visit_all-requires-clause-code : goal.visit_all-requires-clause-code
 visit_all-requires-clause-code c =
@@ -125,9 +125,8 @@ settled c =
     (subst (λ (l : ℕ). AreSettled w.tables new c.assignment-assignment.result.trail l) op c.visit_all.ensures.settled)
 
 complete : (c : After-visit_all) → literals c.self.inside.trail.entries ++ c.args.entry.literal ∷ [] ≡ c.assignment-assignment.result.trail
-    → IsConsistent (literals c.self.inside.trail.entries ++ c.args.entry.literal ∷ [])
     → IsComplete (pending_in c.self.inside.tables (literals c.self.inside.trail.entries ++ c.args.entry.literal ∷ [])) c.visit_all.new.self.pending
-complete c tr cons =
+complete c tr =
     let w = c.self.inside in
     let i = c.self.invariant.0 in
     let x = c.args.entry.literal in
@@ -136,7 +135,7 @@ complete c tr cons =
     let slots = w.tables.slots.items in
     let nodes = c.visit_all.new.self.chains.nodes.items in
     let was = words_have w.lists.pending.numbers in
-    let now = words_have c.take_asking.new.self.numbers in
+    let now = words_have c.leave.new.pending.numbers in
     let is = words_have c.visit_all.new.self.pending.numbers in
     let all = or_gone was now is in
     let e = c.visit_all.ensures in
@@ -144,19 +143,19 @@ complete c tr cons =
     let more = gone_more was now is in
     let grows = gone_grows was now is (λ k h. e.grows k (c.mark_pairs.ensures.grows k h)) in
     let slotted = assign_complete (clauses_in w.tables) w.lists.chains.nodes.items nodes (flags_in w.tables) trail
-    x (slot_set was slots) (slot_set all slots) (flags_long w.tables.kept.items slots ∙ sym (slots_long w.tables.store slots))
+    x (slot_set was slots) (slot_set all slots) (flags_long w.tables.kept.items slots ∙ sym (slots_long w.tables.store.clauses slots))
     (two_watched (clauses_in w.tables) c.visit_all.new.self.resume_at.items c.visit_all.new.self.chains.heads.items nodes
     (2 * c.assignment-assignment.result.variables) (flags_in w.tables) e.rest)
     (whole_free (clauses_in w.tables) w.lists.chains.nodes.items (flags_in w.tables) trail i.free) (moves c)
     (settled_more (clauses_in w.tables) nodes on (slot_set is slots) (slot_set all slots) (opposite x) (flags_in w.tables) (λ k h. more (get_or slots k 0) h) (settled c))
-    (λ k h. grows (get_or slots k 0) h) (slots_complete w.tables.store w.tables.kept.items slots trail was i.complete) in
-    let found = found_complete w.variables w.tables.store w.tables.kept.items trail slots x w.pairs (pairs_of w.pairs c.falsified.inside.0) was
+    (λ k h. grows (get_or slots k 0) h) (slots_complete w.tables.store.clauses w.tables.kept.items slots trail was i.complete) in
+    let found = found_complete w.variables w.tables.store.clauses w.tables.kept.items trail slots x w.pairs (pairs_of w.pairs c.falsified.inside.0) was
     all i.tables.kept c.self.invariant.1 (ap (λ (l : ℕ). pairs_of w.pairs l) op)
     (λ k h none. more _ (e.grows _ (c.mark_pairs.ensures.in_set k h (ap (λ (ys : List ℕ). has_literal ys (pair_in (pairs_of w.pairs c.falsified.inside.0) k).other) (sym tr) ∙ none))))
     grows i.complete slotted in
-    not_gone w.tables.store w.tables.kept.items (trail ++ x ∷ []) x w.lists.pending c.take_asking.new.self is cons
-    (asks_longer w.tables.store trail x w.lists.pending i.asks) c.take_asking.ensures (last_true trail x)
-    (omega (arith, c.requires.below, ap (λ (v : PropagatorView). v.variables) c.self.view_is, i.small)) found
+    not_gone w.tables.store.clauses w.tables.kept.items (trail ++ x ∷ []) x c.args.entry.reason w.lists.pending c.leave.new.pending is c.leave.ensures.without
+    (own_of w.tables.store.clauses c.args.entry (subst (λ (v : PropagatorView). HasOwn v.clauses c.args.entry) (sym c.self.view_is) c.requires.reason))
+    (last_true trail x) found
 
 pub invariant_of-self : goal.invariant_of-self
 invariant_of-self c =
@@ -168,7 +167,8 @@ invariant_of-self c =
     let visited = (goal.at.invariant_of-self c).After-visit_all in
     let e = c.visit_all.ensures in
     let l' = c.visit_all.new.self in
-    let flags = set w.quiet.items c.length-length.result c.is_none.result in
+    let flag = c.leave.ensures.flagged in
+    let flags = c.leave.new.quiet.items in
     let long = c.length-length.ensures.is ∙ sym (length-map w.trail.entries (λ (a : Assigned). a.literal)) in
     let done : AreSound w.variables w.tables l' (trail ++ x ∷ []) flags = record {
       small = i.small;
@@ -179,12 +179,12 @@ invariant_of-self c =
       free = assign_free (clauses_in w.tables) w.lists.chains.nodes.items l'.chains.nodes.items (flags_in w.tables) trail x
           (slot_set (words_have l'.pending.numbers) w.tables.slots.items) i.free (moves visited) (settled visited);
       consistent = consistent here;
-      asks = subst (λ (ys : List ℕ). HasAsks w.tables.store ys l'.pending) (told here) e.asks;
-      complete = complete visited (sym (told here)) (consistent here);
-      quiet_size = length-set w.quiet.items c.length-length.result c.is_none.result ∙ i.quiet_size;
-      quiets = assign_quiets w.tables.store w.tables.kept.items trail x w.quiet.items c.length-length.result c.least-least.result c.is_none.result
-          (words_have w.lists.pending.numbers) long (omega (arith, c.length-length.ensures.short, c.self.invariant.2, i.quiet_size))
-          c.least-least.ensures c.is_none.ensures i.complete i.quiets;
+      asks = subst (λ (ys : List ℕ). HasAsks w.tables.store.clauses ys l'.pending) (told here) e.asks;
+      complete = complete visited (sym (told here));
+      quiet_size = ap (λ (qs : List Bool). length qs) flag.is ∙ length-set w.quiet.items c.length-length.result flag.flag ∙ i.quiet_size;
+      quiets = subst (λ (qs : List Bool). (n : ℕ) → n < length (trail ++ x ∷ []) → get_or qs n false ≡ true → (k : ℕ) → pending_in w.tables (take n (trail ++ x ∷ [])) k ≡ false) (sym flag.is)
+          (assign_quiets w.tables.store.clauses w.tables.kept.items trail x w.quiet.items c.length-length.result flag.flag (words_have w.lists.pending.numbers) long
+          (omega (arith, c.length-length.ensures.short, c.self.invariant.2, i.quiet_size)) flag.none i.complete i.quiets);
     } in (
       subst (λ (ys : List ℕ). AreSound w.variables w.tables l' ys flags) (sym (pushed here)) done,
       c.self.invariant.1,

@@ -1,0 +1,7 @@
+(define (problem discs-4)
+  (:domain hanoi)
+  (:objects d1 d2 d3 d4 - disc p1 p2 p3 - peg)
+  (:init (on d4 p1) (on d1 d2) (on d2 d3) (on d3 d4) (clear d1) (clear p2) (clear p3) (fits d1 p1) (fits d1 p2) (fits d1 p3) (fits d2 p1) (fits d2 p2)
+    (fits d2 p3) (fits d3 p1) (fits d3 p2) (fits d3 p3) (fits d4 p1) (fits d4 p2) (fits d4 p3) (fits d1 d2) (fits d1 d3) (fits d1 d4) (fits d2 d3)
+    (fits d2 d4) (fits d3 d4))
+  (:goal (and (on d4 p3) (on d1 d2) (on d2 d3) (on d3 d4))))

@@ -1,0 +1,3 @@
+pub mod Certificate
+pub mod Reading
+pub mod own

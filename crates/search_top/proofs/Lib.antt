@@ -1,0 +1,5 @@
+mod Lines
+mod Runs
+mod Promises
+mod Deciding
+mod Fit

@@ -1,0 +1,48 @@
+use Rattle.std.proofs.Common.{refl, arith, sym, ap, map, string_bytes}
+use Rattle.plan_endings.specs.Ends.{end_in}
+use Rattle.plan_endings.proofs.published.Stopped.{end_answers}
+use Rattle.search_top.specs.declared.request.How.TheVariants as how
+use Rattle.search_top.specs.declared.ended.Ended.TheVariants.{Plain, Usage}
+use Rattle.search_top.proofs.Promises.{runs, least, no_plan, spent, read_fault, usage, not_taken, no_command, status_apart}
+use Rattle.search_top.proofs.top.run.Goals as goal
+
+pub finish-requires : goal.finish-requires
+finish-requires g c = λ end is. status_apart _ _ _ _ (map string_bytes c.args.words.now) end (end_answers Plain _ c.decide.result end c.decide.ensures.cause (sym is))
+
+pub returns-clause-due : goal.returns-clause-due
+returns-clause-due g c not_six not_eight =
+    let due = c.finish.ensures.due not_six not_eight in
+    (due.0, due.1, end_answers Plain _ c.decide.result due.0 c.decide.ensures.cause (sym due.2), due.3)
+
+pub returns-clause-plan_runs : goal.returns-clause-plan_runs
+returns-clause-plan_runs g c text domain problem by n m zero printed is =
+    runs _ _ _ _ _ _ _ _ c.laws.ensures (returns-clause-due g c) domain problem by n m is text zero printed
+
+pub returns-clause-least : goal.returns-clause-least
+returns-clause-least g c text domain problem n m zero printed is =
+    least _ _ _ _ _ _ _ _ c.laws.ensures (returns-clause-due g c) domain problem how.Least n m is refl text zero printed
+
+pub returns-clause-no_plan : goal.returns-clause-no_plan
+returns-clause-no_plan g c domain problem by n m one is =
+    no_plan _ _ _ _ _ _ _ _ c.laws.ensures (returns-clause-due g c) domain problem by n m is one
+
+pub returns-clause-spent : goal.returns-clause-spent
+returns-clause-spent g c text domain problem by n m two printed is =
+    spent _ _ _ _ _ _ _ _ c.laws.ensures (returns-clause-due g c) domain problem by n m is text two printed
+
+pub returns-clause-read_fault : goal.returns-clause-read_fault
+returns-clause-read_fault g c = read_fault _ _ _ _ _ _ _ _ (returns-clause-due g c)
+
+pub returns-clause-front : goal.returns-clause-front
+returns-clause-front g c six =
+    let front = c.finish.ensures.front (λ eight. absurd (omega (arith, six, eight))) in
+    (front.0, end_answers Plain _ c.decide.result front.0 c.decide.ensures.cause (sym front.1), front.3)
+
+pub returns-clause-usage : goal.returns-clause-usage
+returns-clause-usage g c = usage _ _ _ _ _ _ _ _ (returns-clause-due g c)
+
+pub returns-clause-not_taken : goal.returns-clause-not_taken
+returns-clause-not_taken g c = not_taken _ _ _ _ _ _ _ _ (returns-clause-due g c)
+
+pub returns-clause-no_command : goal.returns-clause-no_command
+returns-clause-no_command g c none = no_command _ _ _ _ _ _ _ _ (returns-clause-due g c) (rw none refl) (c.finish.ensures.there Usage (ap (end_in Plain) (c.decide.ensures.no_command none)) refl)

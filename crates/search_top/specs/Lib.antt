@@ -1,0 +1,12 @@
+pub mod Answers
+pub mod Budget
+pub mod Causes
+pub mod Command
+pub mod Ended
+pub mod Headline
+pub mod Laws
+pub mod Limits
+pub mod Report
+pub mod Requested
+pub mod Seen
+pub mod own

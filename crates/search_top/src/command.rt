@@ -1,0 +1,68 @@
+//! The commands, as `clap` is told of them.
+ghost use Rattle.std.specs.Prelude.{◌≡◌, IfOk};
+ghost use Rattle.clap.specs.Words.{app_of};
+ghost use Rattle.requests.specs.Arguments.{TakesWords};
+ghost use Rattle.search_top.specs.Command.{command_of, named, how_words, word_of};
+
+use crate::limits::{MOST_MEMORY, MOST_STATES};
+use clap::Command;
+use clap::builder::ValueParser;
+use requests::{Argument, with_all};
+use std::alloc::{AllocError, Global};
+
+// The greatest numbers, in the type of a command line's numbers.
+const GREATEST_STATES: i64 = MOST_STATES as i64;
+
+const GREATEST_MEMORY: i64 = MOST_MEMORY as i64;
+
+/// The commands, by the word that names each.
+#[derive(Clone, Copy)]
+pub enum Name {
+    Search,
+}
+
+static HOW: [&str; 2] = ["greedy", "least"];
+
+/// The command that a word names.
+pub(crate) fn name_of(word: &str) -> Option<Name>
+    ensures { result ≡ named word.now }
+{
+    match word {
+        "search" => Some(Name::Search),
+        _ => None,
+    }
+}
+
+/// The reader of how a walk goes.
+pub(crate) fn how_reader() -> ValueParser<'static>
+    ensures { TakesWords how_words result }
+{
+    ValueParser::Names(HOW.as_slice())
+}
+
+/// The command of this name.
+pub(crate) fn command_by<'a>(
+    alloc: Global,
+    name: Name,
+    by: ValueParser<'a>,
+) -> Result<Command<'a>, AllocError>
+    ensures { IfOk result (λ c. app_of c ≡ command_of by.entry name) }
+{
+    match name {
+        Name::Search => with_all(
+            alloc,
+            "search",
+            &[
+                Argument::Word("domain"),
+                Argument::Word("problem"),
+                Argument::Long("how", by, "greedy"),
+                Argument::Long(
+                    "states",
+                    ValueParser::Signed(1, GREATEST_STATES),
+                    "4294967295",
+                ),
+                Argument::Long("memory", ValueParser::Signed(1, GREATEST_MEMORY), "1024"),
+            ],
+        ),
+    }
+}

@@ -1,0 +1,10 @@
+//! What the words may ask for at most.
+
+/// How many states may be asked for: as many as have numbers.
+pub const MOST_STATES: u32 = 4_294_967_295;
+
+/// How many megabytes the tables may be allowed.
+pub const MOST_MEMORY: u32 = 1_048_576;
+
+/// The bytes of a megabyte.
+pub(crate) const MEGABYTE: u64 = 1_048_576;

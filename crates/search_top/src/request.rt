@@ -1,0 +1,47 @@
+//! What words can ask for.
+ghost use Rattle.std.specs.Prelude.{◌≡◌};
+ghost use Rattle.plan_tasks.specs.Named.{names_of as names_in};
+ghost use Rattle.search_top.specs.Seen.{seen, names_of};
+
+use plan_tasks::take::Names;
+
+/// How a walk through the states goes.
+#[derive(Clone, Copy, PartialEq, Eq)]
+pub enum How {
+    /// After proposals, to some plan.
+    Greedy,
+    /// Breadth first, to a plan with the least number of actions.
+    Least,
+}
+
+/// What is asked for. A file is named by its word.
+#[derive(Clone, Copy)]
+pub enum Request<'a> {
+    /// A walk through the states, by entering so many of them at most, in tables of so many megabytes together.
+    Search {
+        domain: &'a str,
+        problem: &'a str,
+        how: How,
+        states: u32,
+        memory: u32,
+    },
+}
+
+impl<'a> Request<'a> {
+    /// The names of the files, in the order of the words.
+    pub fn names(&self) -> Names<'a>
+        ensures { names_in result ≡ names_of (seen self.now) }
+    {
+        match self {
+            Request::Search {
+                domain,
+                problem,
+                ..
+            } => Names {
+                domain,
+                problem,
+                third: None,
+            },
+        }
+    }
+}

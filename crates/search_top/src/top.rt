@@ -1,0 +1,84 @@
+//! The top call.
+ghost use Rattle.std.specs.Prelude.{◌≡◌, ◌≢◌, ◌≤◌, ℕ, List, [], ◌∷◌, map, string_bytes, Some, None, Contains};
+ghost use Rattle.pl_io.specs.Outside.{Agrees, appended, TakesFront, Rose, fault_count};
+ghost use Rattle.plan_tasks.specs.Files.{NotesAmong};
+ghost use Rattle.plan_tasks.specs.Claims.{Printed, OfFiles};
+ghost use Rattle.search_top.specs.declared.request.How.{How};
+ghost use Rattle.search_top.specs.declared.request.How.TheVariants as how;
+ghost use Rattle.search_top.specs.Requested.{requested, command_named};
+ghost use Rattle.search_top.specs.Seen.{searches};
+ghost use Rattle.search_top.specs.Ended.{status_of, text_of};
+ghost use Rattle.search_top.specs.declared.ended.Ended.{Ended};
+ghost use Rattle.search_top.specs.Causes.{Comes, HasFault, names_in};
+ghost use Rattle.search_top.specs.Headline.{PlanRuns, PlanIsLeast, HasNoPlan, IsSpent};
+
+use crate::decide::decide;
+use crate::laws::laws;
+use pl_io::{Shelf, Sink};
+use plan_endings::{Status, finish};
+use std::alloc::Global;
+use std::thread::Threads;
+
+/// Reads the words, takes the files that they name from the shelf, decides, and writes the text due into the sink.
+///
+/// The words are those after the program's name: `search DOMAIN PROBLEM [--how greedy|least] [--states N] [--memory MB]` has the states
+/// of the task walked through, in search of some plan or of one with the least number of actions, by entering N states at most, and as
+/// many as tables of so many megabytes hold.
+pub fn run<H: Threads + Sync, S: Shelf, K: Sink>(
+    rt: &H,
+    alloc: Global,
+    words: &[String],
+    shelf: &mut S,
+    sink: &mut K,
+) -> Status
+    // With status 0 the text is a plan file, and the calls that it prints are a plan.
+    ensures plan_runs { (text domain problem : List ℕ) (how : How) (states memory : ℕ) → result.0 ≡ 0 → Printed (K.taken sink.old) (K.taken sink.new) text
+        → requested (map string_bytes words.now) ≡ Some (searches domain problem how states memory)
+        → OfFiles (S.heard shelf.old) (S.heard shelf.new) domain problem (PlanRuns text) }
+
+    // With `least` no plan has fewer calls.
+    ensures least { (text domain problem : List ℕ) (states memory : ℕ) → result.0 ≡ 0 → Printed (K.taken sink.old) (K.taken sink.new) text
+        → requested (map string_bytes words.now) ≡ Some (searches domain problem how.Least states memory)
+        → OfFiles (S.heard shelf.old) (S.heard shelf.new) domain problem (PlanIsLeast text) }
+
+    // With status 1 there is no plan of any length.
+    ensures no_plan { (domain problem : List ℕ) (how : How) (states memory : ℕ) → result.0 ≡ 1
+        → requested (map string_bytes words.now) ≡ Some (searches domain problem how states memory)
+        → OfFiles (S.heard shelf.old) (S.heard shelf.new) domain problem HasNoPlan }
+
+    // With status 2 as many states as the budget says were entered, each reached from the initial one and no two equal.
+    ensures spent { (text domain problem : List ℕ) (how : How) (states memory : ℕ) → result.0 ≡ 2 → Printed (K.taken sink.old) (K.taken sink.new) text
+        → requested (map string_bytes words.now) ≡ Some (searches domain problem how states memory)
+        → OfFiles (S.heard shelf.old) (S.heard shelf.new) domain problem (IsSpent how states memory text) }
+
+    // Each status has its cause, and with every status but 6 the bytes taken are exactly the text due.
+    ensures due { result.0 ≢ 6 → result.0 ≢ 8 → (end : Ended) × (result.0 ≡ status_of end)
+        × Comes (S.heard shelf.old) (S.heard shelf.new) (S.failed shelf.old) (S.failed shelf.new) (map string_bytes words.now) end
+        × (K.taken sink.new ≡ appended (K.taken sink.old) (text_of end)) }
+    ensures read_fault { result.0 ≡ 5 → HasFault (S.failed shelf.old) (S.failed shelf.new) (map string_bytes words.now) }
+    ensures write_fault { result.0 ≡ 6 → Rose (K.faults sink.old) (K.faults sink.new) }
+    ensures front { result.0 ≡ 6 → (end : Ended)
+        × Comes (S.heard shelf.old) (S.heard shelf.new) (S.failed shelf.old) (S.failed shelf.new) (map string_bytes words.now) end
+        × TakesFront (K.taken sink.old) (K.taken sink.new) (text_of end) }
+    ensures usage { result.0 ≡ 7 → requested (map string_bytes words.now) ≡ None }
+    ensures not_taken { requested (map string_bytes words.now) ≡ None → Contains (6 ∷ 7 ∷ 8 ∷ []) result.0 }
+    // Where the first word names no command, that is told whatever memory there is.
+    ensures no_command { command_named (map string_bytes words.now) ≡ None → Contains (6 ∷ 7 ∷ []) result.0 }
+    ensures untouched { requested (map string_bytes words.now) ≡ None → shelf.new ≡ shelf.old }
+
+    // With 8 the sink was not touched.
+    ensures nothing { result.0 ≡ 8 → sink.new ≡ sink.old }
+
+    // The files are taken by the names that the words give, each at most once.
+    ensures noted { NotesAmong (names_in (map string_bytes words.now)) (S.failed shelf.old) (S.failed shelf.new) }
+
+    // What is handed over is what the shelf tells, where it tells that; what a shelf tells stays as it was, and no count of faults falls.
+    ensures agrees { Agrees (S.told shelf.old) (S.lacks shelf.old) (S.heard shelf.old) (S.heard shelf.new) }
+    ensures told { S.told shelf.new ≡ S.told shelf.old }
+    ensures lacks { S.lacks shelf.new ≡ S.lacks shelf.old }
+    ensures never_falls { (name : List ℕ) → fault_count name (S.failed shelf.old) ≤ fault_count name (S.failed shelf.new) }
+    ensures faults { K.faults sink.old ≤ K.faults sink.new }
+{
+    laws();
+    finish(alloc, decide(rt, alloc, words, shelf), sink)
+}
