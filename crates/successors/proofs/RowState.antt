@@ -1,23 +1,22 @@
 -- A row, and the state for which it stands.
 use Rattle.std.proofs.Common.{arith, ◌≡◌, ◌==◌, ℕ, ◌+◌, ◌*◌, ◌/◌, ◌^◌, ◌<◌, ◌≤◌, List, [], ◌∷◌, Bool, true, false, not, ◌&&◌, ◌||◌, length, get_or, refl, sym, ap, ◌∙◌, inl, inr}
-use Rattle.std.specs.Prelude.{slice_get, unwrap_or}
-use Rattle.std.specs.List.{AllByRecursion, list_any, list_all}
+use Rattle.std.specs.Prelude.{unwrap_or}
+use Rattle.std.specs.List.{AllByRecursion, list_any}
 use Rattle.std.proofs.lemmas.Bool.{cases_lt}
 use Rattle.std.proofs.lemmas.List.{get_or_past}
 use Rattle.std.proofs.lemmas.Option.{slice_get-get_or}
 use Rattle.bit_sets.specs.Rows.{row_has}
 use Rattle.gt_core.specs.Literal.{state_of, holds, all_hold}
-use Rattle.gt_core.specs.Task.{Effect, Task, action, precondition}
+use Rattle.gt_core.specs.Task.{Effect, Task, action}
 use Rattle.gt_core.specs.Lawful.{is_task}
 use Rattle.gt_core.specs.Active.{is_active, EffectWithin}
 use Rattle.gt_core.specs.Execution.{Runs, next_of_one, next_values, IsGoal}
-use Rattle.gt_core.proofs.published.Basics.{Among, each_at, each_from, all_same, not_true, test_same, apart}
+use Rattle.gt_core.proofs.published.Basics.{each_at, each_from, all_same, not_true, test_same, apart}
 use Rattle.gt_core.proofs.published.Literals.{holds_same}
-use Rattle.gt_core.proofs.published.Within.{lawful, literals_within, precondition_within, action_effects_within}
+use Rattle.gt_core.proofs.published.Within.{lawful, literals_within, action_effects_within}
 use Rattle.gt_core.proofs.published.NextLaw.{settled, values_are}
-use Rattle.gt_core.proofs.published.SequenceLaw.{Agree, run_agrees}
-use Rattle.search_laws.proofs.published.SearchLaw.{goal_too}
-use Rattle.state_store.specs.Packed.{unpacked, width_of, IsPacked}
+use Rattle.gt_core.proofs.published.SequenceLaw.{run_agrees}
+use Rattle.state_store.specs.Packed.{unpacked, IsPacked}
 use Rattle.state_store.proofs.published.RowLaw.{AreWords, value_at, length-unpacked, length-row, none_past, packed_if, width_holds}
 
 -- literals of a few facts are of more facts

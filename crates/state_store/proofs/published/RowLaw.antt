@@ -1,8 +1,7 @@
 -- Rows that have the same bits are the same.
-use Rattle.std.proofs.Common.{arith, ◌≡◌, ◌==◌, ℕ, zero, suc, ◌+◌, ◌-◌, ◌*◌, ◌/◌, ◌%◌, ◌^◌, ◌<◌, ◌≤◌, List, [], ◌∷◌, Bool, true, false, length, map, take, drop, get_or, refl, sym, ap, ◌∙◌, ◌⊎◌, inl, inr}
+use Rattle.std.proofs.Common.{arith, ◌≡◌, ◌==◌, ℕ, zero, suc, ◌+◌, ◌-◌, ◌*◌, ◌/◌, ◌%◌, ◌^◌, ◌<◌, ◌≤◌, List, [], ◌∷◌, Bool, false, length, take, drop, get_or, refl, sym, ap, ◌∙◌, ◌⊎◌, inl, inr}
 use Rattle.std.specs.Prelude.{slice_index}
 use Rattle.std.specs.Int.{bit_at}
-use Rattle.std.specs.List.{range_with_len}
 use Rattle.std.proofs.lemmas.Bool.{cases_lt}
 use Rattle.std.proofs.lemmas.Bool.Decides.{nat_tests}
 use Rattle.std.proofs.lemmas.List.{get_or_past, length-take}
@@ -10,7 +9,7 @@ use Rattle.std.proofs.lemmas.List.FromFn.{get_or-map-range_with_len, length-map-
 use Rattle.std.proofs.lemmas.Nat.Bits.{bit_at-lt, bit_at-zero, bit_at_cat_high, same_from_bits}
 use Rattle.bit_sets.specs.Rows.{row_has, word_has}
 use Rattle.bit_sets.proofs.published.WordLaw.{zero_has}
-use Rattle.state_store.specs.Packed.{number_of, packed, unpacked, width_of, IsPacked}
+use Rattle.state_store.specs.Packed.{packed, unpacked, width_of, IsPacked}
 use Rattle.state_store.proofs.PackLaw.{length-packed, number_small, packed_has}
 pub use Rattle.state_store.proofs.PackLaw.{width_holds}
 

@@ -1,17 +1,15 @@
-use Rattle.std.proofs.Common.{arith, false, ℕ, ◌≡◌, ◌+◌, ◌≤◌, ◌<◌, ◌∙◌, List, Bool, ap, length, sym, subst, inl}
-use Rattle.std.specs.Prelude.{slice_get, slice_index}
+use Rattle.std.proofs.Common.{arith, false, ℕ, ◌≡◌, ◌<◌, ◌∙◌, ap, length, sym, subst}
+use Rattle.std.specs.Prelude.{slice_index}
 use Rattle.bit_sets.specs.Rows.{row_has}
-use Rattle.gt_core.specs.Literal.{state_of, holds}
-use Rattle.gt_core.specs.Execution.{IsGoal, next_values}
+use Rattle.gt_core.specs.Literal.{holds}
 use Rattle.state_store.specs.Packed.{unpacked}
 use Rattle.successors.specs.Trie.{IsBefore}
-use Rattle.successors.proofs.published.SkipLaw.{before_more, before_less, before_none, skipped}
+use Rattle.successors.proofs.published.SkipLaw.{skipped}
 use Rattle.state_store.proofs.published.RowLaw.{length-row, width_holds}
 use Rattle.state_search.specs.own.Closing.{IsClosing}
 use Rattle.state_search.specs.own.Breadth.{IsBreadth}
-use Rattle.state_search.proofs.WalkLaw.{at_entered}
-use Rattle.state_search.proofs.BreadthLaw.{found, kept_unable, kept_known, kept_entered, all_tried, breadth_skipped}
-use Rattle.state_search.proofs.ClosingLaw.{closing_unable, closing_known, closing_entered, closing_found, closing_tried, closing_skipped}
+use Rattle.state_search.proofs.BreadthLaw.{all_tried, breadth_skipped}
+use Rattle.state_search.proofs.ClosingLaw.{closing_tried, closing_skipped}
 use Rattle.state_search.proofs.sweep.sweep_nodes.Goals as goal
 
 pub returns-clause-closing : goal.returns-clause-closing

@@ -1,14 +1,14 @@
-use Rattle.std.proofs.Common.{arith, ◌≡◌, ◌+◌, ◌≤◌, ◌<◌, ◌∙◌, List, Bool, ap, length, sym, subst, inl}
-use Rattle.std.specs.Prelude.{slice_get, slice_index}
+use Rattle.std.proofs.Common.{◌≡◌, ◌+◌, ◌∙◌, List, Bool, ap, sym, subst, inl}
+use Rattle.std.specs.Prelude.{slice_get}
 use Rattle.gt_core.specs.Literal.{state_of}
 use Rattle.gt_core.specs.Execution.{IsGoal, next_values}
 use Rattle.state_store.specs.Packed.{unpacked}
 use Rattle.successors.specs.Trie.{IsBefore}
-use Rattle.successors.proofs.published.SkipLaw.{before_more, before_less, before_none, skipped}
+use Rattle.successors.proofs.published.SkipLaw.{before_more, before_less}
 use Rattle.state_search.specs.own.Breadth.{IsFound}
 use Rattle.state_search.proofs.WalkLaw.{at_entered}
-use Rattle.state_search.proofs.BreadthLaw.{found, kept_unable, kept_known, kept_entered, all_tried, breadth_skipped}
-use Rattle.state_search.proofs.ClosingLaw.{closing_unable, closing_known, closing_entered, closing_found, closing_tried, closing_skipped}
+use Rattle.state_search.proofs.BreadthLaw.{found, kept_unable, kept_known, kept_entered, breadth_skipped}
+use Rattle.state_search.proofs.ClosingLaw.{closing_unable, closing_known, closing_entered, closing_found, closing_skipped}
 use Rattle.state_search.proofs.sweep.sweep_part.Goals.{in-Entered+else-is_goal, in-Unable, in-Known}
 use Rattle.state_search.proofs.sweep.sweep_part.Goals as goal
 

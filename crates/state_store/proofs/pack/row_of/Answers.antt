@@ -1,4 +1,4 @@
-use Rattle.std.proofs.Common.{◌≡◌, ◌∙◌, ap, refl, subst, sym, List, ℕ, length}
+use Rattle.std.proofs.Common.{◌≡◌, ◌∙◌, ap, refl, subst, sym, length}
 use Rattle.state_store.specs.Packed.{packed, unpacked, width_of, IsPacked}
 use Rattle.state_store.proofs.PackLaw.{unpacks, is_packed}
 use Rattle.state_store.proofs.pack.row_of.Goals as goal

@@ -1,8 +1,7 @@
-use Rattle.std.proofs.Common.{◌∙◌, ◌≡◌, ap, sym, subst, true, List, ℕ}
+use Rattle.std.proofs.Common.{◌∙◌, ap, sym}
 use Rattle.std.proofs.lemmas.Bool.{not-true}
-use Rattle.gt_core.specs.Literal.{all_hold, state_of}
+use Rattle.gt_core.specs.Literal.{all_hold}
 use Rattle.bit_sets.specs.Rows.{row_has}
-use Rattle.state_store.specs.Packed.{unpacked}
 use Rattle.gt_core.proofs.published.Within.{lawful, literals_within}
 use Rattle.successors.proofs.RowState.{literals_wide, wide, goal_holds, goal_fails}
 use Rattle.successors.proofs.next.is_goal.Goals as goal

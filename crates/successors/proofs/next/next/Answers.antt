@@ -1,9 +1,7 @@
 use Rattle.std.proofs.Common.{◌≡◌, ◌∙◌, ap, sym, length}
-use Rattle.gt_core.specs.Literal.{all_hold, state_of}
+use Rattle.gt_core.specs.Literal.{all_hold}
 use Rattle.gt_core.specs.Task.{precondition, action}
-use Rattle.gt_core.specs.Execution.{Runs}
 use Rattle.bit_sets.specs.Rows.{row_has}
-use Rattle.state_store.specs.Packed.{unpacked}
 use Rattle.gt_core.proofs.published.Within.{precondition_within, action_effects_within}
 use Rattle.successors.proofs.RowState.{literals_wide, effects_wide, wide, hold_same, packed_after, next_after, bits_after, words_of}
 use Rattle.successors.proofs.next.next.Goals as goal

@@ -1,4 +1,4 @@
-use Rattle.std.proofs.Common.{◌≡◌, ◌*◌, ◌+◌, ◌||◌, ◌∙◌, Bool, ap, sym, drop}
+use Rattle.std.proofs.Common.{◌*◌, ◌+◌, ◌||◌, ◌∙◌, Bool, ap, sym, drop}
 use Rattle.std.specs.List.{list_any}
 use Rattle.std.proofs.lemmas.List.{at_drop_more}
 use Rattle.bit_sets.specs.Rows.{row_has}

@@ -1,5 +1,5 @@
-use Rattle.std.proofs.Common.{◌≡◌, ◌∙◌, ap, sym, subst, length, List, ℕ}
-use Rattle.state_store.specs.Packed.{unpacked, IsPacked, width_of}
+use Rattle.std.proofs.Common.{◌≡◌, ◌∙◌, ap, sym, subst, length}
+use Rattle.state_store.specs.Packed.{unpacked, IsPacked}
 use Rattle.state_store.proofs.published.RowLaw.{length-row}
 use Rattle.gt_core.proofs.published.Within.{lawful}
 use Rattle.state_search.proofs.room.Room.new.Goals as goal

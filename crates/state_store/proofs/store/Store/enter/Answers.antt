@@ -1,7 +1,7 @@
-use Rattle.std.proofs.Common.{arith, ◌≡◌, ◌≤◌, ◌++◌, ◌∷◌, [], ◌∙◌, ℕ, List, Bool, refl, ap, sym, subst, length, map, Some}
+use Rattle.std.proofs.Common.{arith, ◌≡◌, ◌≤◌, ◌++◌, ◌∷◌, [], ◌∙◌, refl, ap, sym, subst, length, map}
 use Rattle.std.specs.List.{AllByRecursion}
 use Rattle.std.proofs.lemmas.List.{length-map, length-append, map-append}
-use Rattle.state_store.specs.Packed.{packed, unpacked, width_of, IsPacked}
+use Rattle.state_store.specs.Packed.{unpacked, width_of, IsPacked}
 use Rattle.state_store.proofs.PackLaw.{length-packed}
 use Rattle.state_store.proofs.TableLaw.{absent_unless}
 use Rattle.state_store.proofs.StoreLaw.{state_of_row, none_there, all_push}

@@ -1,4 +1,3 @@
-use Rattle.std.proofs.Common.{sym}
 use Rattle.state_store.proofs.TableLaw.{trees_empty}
 use Rattle.state_store.proofs.table.Table.restart.Goals as goal
 
