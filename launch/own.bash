@@ -6,6 +6,11 @@
 take_own() {
     words=() memory='' seconds='' plan_file='' all_faults='' timed=''
     while [ $# -gt 0 ]; do
+        if is_of_program "${1%%=*}"; then
+            words+=("$1")
+            shift
+            continue
+        fi
         case $1 in
         --) break ;;
         --memory | --seconds | --plan-file)
@@ -22,6 +27,11 @@ take_own() {
     done
     words+=("$@")
     check_own "${words[0]-}"
+}
+
+# is_of_program WORD: it is an option that the command's program takes itself: it stands in a row of the command's own help.
+is_of_program() {
+    [ "$1" = --memory ] && is_command "${words[0]-}" && grep -q -e "^$1 " "$root/launch/help/${words[0]}.txt"
 }
 
 set_own() {

@@ -1,5 +1,5 @@
 # shellcheck shell=bash disable=SC2034,SC2154 # the parts set variables for one another
-# The programs that may be run, by their names (plan_prog, judge_prog): that of the release, the one that was proved here, and a
+# The programs that may be run, by their names (plan_prog, judge_prog, search_prog): that of the release, the one that was proved here, and a
 # quick build, which is not proved. A program is run only whose bytes have the SHA-256 that is kept, and that was seen to answer
 # on this machine. To be read by scripts that have set root, after places.bash.
 

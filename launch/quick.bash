@@ -48,6 +48,7 @@ build_quick() (
 words_on_pipe() {
     case $1 in
     judge_prog) echo "formula $2 /dev/null 0" ;;
+    search_prog) echo "search $2 /dev/null" ;;
     *) echo "plan $2 /dev/null --max-horizon 0" ;;
     esac
 }

@@ -5,7 +5,7 @@
 # program_names: the programs that there are sources of.
 program_names() {
     local name
-    for name in plan_prog judge_prog; do
+    for name in plan_prog judge_prog search_prog; do
         [ ! -d "$root/crates/$name" ] || echo "$name"
     done
 }

@@ -12,7 +12,8 @@ import sys
 
 from plainly import Plain, Refused
 
-from pddl import NoTree
+from messages.calls import tell_line, tell_unread
+from pddl import File, NoTree
 from rewrite import TooMany
 from without_costs import OtherForm, are_words, put
 
@@ -42,16 +43,26 @@ def main(words):
     except (Refused, OtherForm, TooMany) as why:
         print(why, file=sys.stderr)
         return 3
-    except NoTree as why:
-        say(why)
-        return 3
+    except NoTree:
+        return tell_no_list(words[:2])
     except OSError as fault:
-        say(fault)
+        which = dict(zip(words[:2], ("domain", "problem"))).get(fault.filename, "plan")
+        tell_unread(fault.filename or words[0], which)
         return 5
     except (IndexError, KeyError, AttributeError):
         say("a section of the files is not as PDDL has it: dokyreva check tells where")
         return 3
     return give_back(it, calls) if is_back else write(it, words)
+
+
+def tell_no_list(paths):
+    """Where a file is no list, as each command tells it; the status."""
+    for path, which in zip(paths, ("domain", "problem")):
+        try:
+            File(path)
+        except NoTree as why:
+            tell_line(f"; refused syntax {which} {why.at}", {which: path}, "plain")
+    return 3
 
 
 def write(it, words):

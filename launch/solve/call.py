@@ -20,7 +20,7 @@ class Call:
     def __init__(self, tool, root, programs, wish, given, kind="exists"):
         self.tool, self.root = tool, root
         self.planner, self.judge = programs.get("planner"), programs.get("judge")
-        self.searcher, self.judge_of_never = programs.get("search"), programs.get("never")
+        self.searcher, self.judge_of_never, self.programs = programs.get("search"), programs.get("never"), programs
         self.known, self.refusal = Known(wish, kind), None
         self.jobs = given["jobs"] or processes.processors()
         self.seconds, self.workers, self.walks = given["seconds"], 1, True
@@ -34,7 +34,7 @@ class Call:
     def take_files(self, domain, problem):
         """Reads both files once, and puts what all programs read where no outside program is told of."""
         self.paths = domain, problem
-        self.domain_text, self.problem_text = rooms.read_input(domain), rooms.read_input(problem)
+        self.domain_text, self.problem_text = rooms.read_input(domain, "domain"), rooms.read_input(problem, "problem")
 
     def note(self, number, _):
         """A signal ends the call, with what is known."""
@@ -66,6 +66,14 @@ class Call:
         sys.path.append(os.path.join(self.root, "launch"))
         from messages.calls import tell_line  # (it takes longer to read than a short call)
         tell_line(line, dict(zip(("domain", "problem"), self.paths)), "plan")
+
+
+def tell_unread(root, error):
+    """Why a file was not read; the status that says so."""
+    sys.path.append(os.path.join(root, "launch"))
+    from messages.calls import tell_unread as tell
+    tell(error.path, error.which)
+    return 5
 
 
 def say(tool, *words):

@@ -10,7 +10,7 @@ import options
 import rooms
 import solvers
 import solve
-from call import Call, block_signals, put_out, say
+from call import Call, block_signals, put_out, say, tell_unread
 from driver import Driver
 from engine import Engine, accept
 from jobs import Job
@@ -86,7 +86,7 @@ def run(root, programs, words):
     except solvers.NoSolver as error:
         return refuse(70, str(error))
     except rooms.Unread as error:
-        return refuse(5, str(error))
+        return tell_unread(root, error)
     except OSError as error:
         return refuse(6, f"{error.filename or ''}: {error.strerror}")
     try:

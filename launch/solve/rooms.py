@@ -8,7 +8,11 @@ LONGEST = 1 << 20
 
 
 class Unread(Exception):
-    """A file cannot be read, with its name and why."""
+    """A file cannot be read: its path, and which of the call's files it is."""
+
+    def __init__(self, path, which):
+        super().__init__(path)
+        self.path, self.which = path, which
 
 
 def fresh(folder, prefix):
@@ -30,7 +34,7 @@ def write(path, text):
     return path
 
 
-def read_input(path):
+def read_input(path, which):
     """The bytes of a file that the user names, which may be a pipe."""
     try:
         with open(path, "rb") as file:
@@ -39,7 +43,7 @@ def read_input(path):
                 text += some
             return text
     except OSError as error:
-        raise Unread(f"{path}: {error.strerror}") from error
+        raise Unread(path, which) from error
 
 
 def read_made(path, most):
