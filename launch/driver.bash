@@ -5,7 +5,7 @@ use programs commands
 
 # run_driver TOOL WORD..: becomes the driver with these words.
 run_driver() {
-    local tool=$1 planner judge searcher never cache=(-B)
+    local tool=$1 planner judge others cache=(-B)
     shift
     if [[ ${1-} == --help || ${1-} == -h ]]; then
         use words
@@ -16,20 +16,21 @@ run_driver() {
     find_places
     take_programs "$tool"
     find_cache_of_python
-    exec python3 -I -S "${cache[@]}" "$root/launch/solve" "$tool" "$root" "planner=$planner" "judge=$judge" "search=$searcher" \
-        "never=$never" -- "$@"
+    exec python3 -I -S "${cache[@]}" "$root/launch/solve" "$tool" "$root" "planner=$planner" "judge=$judge" "${others[@]}" -- "$@"
 }
 
-# take_programs TOOL: sets planner, judge, searcher and never to programs, or to nothing where there is none. ./solve needs the
-# planner, ./plan-by the judge; ./never-by needs never, and says itself where there is none.
+# take_programs TOOL: sets planner and judge to programs, or to nothing where there is none, and others to a line WORD=PROGRAM for each word
+# of a program that may be there. ./solve needs the planner, ./plan-by the judge; ./never-by needs never, and says itself where there is none.
 take_programs() {
-    local name wanted=plan_prog
+    local word wanted=plan_prog
     [ "$1" != plan-by ] || wanted=judge_prog
     [ "$1" != never-by ] || wanted=
     planner=${SOLVE_PLANNER-$(program_of plan_prog "$wanted")} || exit
     judge=${SOLVE_JUDGE-$(program_of judge_prog "$wanted")} || exit
-    searcher=${SOLVE_SEARCH-$(program_for search)}
-    never=${SOLVE_NEVER-$(program_for never)}
+    others=("search=${SOLVE_SEARCH-$(program_for search)}")
+    for word in never never-search system never-formula; do
+        others+=("$word=${SOLVE_NEVER-$(program_for "$word")}")
+    done
 }
 
 # program_of NAME WANTED: its path; it is built where it is the wanted one and nothing else is there.

@@ -10,7 +10,7 @@
 any_engines() {
     echo plan
     [ -z "$searcher" ] || printf '%s\n' search-greedy search-least
-    [ -z "$never" ] || echo never
+    [ -z "$never" ] || ! is_command never-search && [ -z "${SPREAD_NEVER-}" ] || echo never
 }
 
 # take_engines: sets searcher and never to programs, or to nothing, and engines to those that are asked for.

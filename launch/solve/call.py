@@ -20,7 +20,7 @@ class Call:
     def __init__(self, tool, root, programs, wish, given, kind="exists"):
         self.tool, self.root = tool, root
         self.planner, self.judge = programs.get("planner"), programs.get("judge")
-        self.searcher, self.judge_of_never = programs.get("search"), programs.get("never")
+        self.searcher, self.judge_of_never, self.programs = programs.get("search"), programs.get("never"), programs
         self.known, self.refusal = Known(wish, kind), None
         self.jobs = given["jobs"] or processes.processors()
         self.seconds, self.workers, self.walks = given["seconds"], 1, True

@@ -110,7 +110,7 @@ class Abc(Search):
     """Clauses, by the property-directed reachability of ABC."""
 
     def search(self, room):
-        system = yield from self.ask(self.call.judge_of_never, "system", "--format", "blif")
+        system = yield from self.ask(self.call.programs["system"], "system")
         zeros = (yield from self.script("invariants", "zeros", system)) if system else None
         if zeros is None:
             return None
@@ -141,7 +141,7 @@ class Other(Search):
 
     def search(self, room):
         form = self.call.given["format"]
-        system = yield from self.ask(self.call.judge_of_never, "system", "--format", form)
+        system = yield from self.ask(self.call.programs["system"], "system", *([] if form == "blif" else ["--format", form]))
         if system is None:
             return None
         with open(system, "rb") as file:
@@ -160,7 +160,7 @@ class Proof(Sat):
 
     def judge(self, word, n, *more, **how):
         call = self.call
-        return part([call.judge_of_never, self.WORDS[word], call.domain, call.problem, self.path, *more], memory=self.memory(), **how)
+        return part([call.programs["never-formula"], self.WORDS[word], call.domain, call.problem, self.path, *more], memory=self.memory(), **how)
 
     def is_accepted(self, n, line):
         return NEVER.match(line)
@@ -186,8 +186,10 @@ class Proof(Sat):
         self.came[n] = (state, line)
 
 
-# The searches by their names: what makes each, its program, and the package of Debian that has it.
-NAMED = {"glpk": (Glpk, "glpsol", "glpk-utils"), "abc": (Abc, "berkeley-abc", "berkeley-abc")}
+# The searches by their names: what makes each, its program, the package of Debian that has it, and what it asks of the task.
+NAMED = {"glpk": (Glpk, "glpsol", "glpk-utils", ("planner", "judge")), "abc": (Abc, "berkeley-abc", "berkeley-abc", ("system",))}
+OF_TASK = {"planner": "the planner", "judge": "the program that judges", "system": "a program that writes the task as a system",
+           "never": "a program that judges certificates", "never-search": "a program that searches for certificates"}
 
 
 def found(name, path):
@@ -195,6 +197,19 @@ def found(name, path):
     return options.which(NAMED[name][1], path)
 
 
-def prover(name):
-    """What makes a solver for clauses that `never` does not take, where one is named."""
-    return (lambda call, row: Proof(call, row, name)) if name else None
+def lacking(call, name):
+    """What a search lacks, in words; nothing where it lacks nothing."""
+    _, program, package, needs = NAMED[name]
+    if not found(name, call.path):
+        return f"there is no command {program}: the package {package} has it"
+    return without(call, *needs, "never")
+
+
+def without(call, *needs):
+    """Which of these words of the proved programs is not there, in words; nothing where all are."""
+    return next((f"missing here: {OF_TASK[it]}" for it in needs if it not in call.programs), "")
+
+
+def prover(call, name):
+    """What makes a solver for clauses that `never` does not take, where one is named and the formula can be had."""
+    return (lambda call, row: Proof(call, row, name)) if name and "never-formula" in call.programs else None

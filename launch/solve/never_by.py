@@ -27,26 +27,31 @@ def row(name, after, memory):
 
 def engines(call, name):
     """The engines of a search that is named: `never` without a certificate, then the search, or all of them."""
-    names = [OWN, *(it for it in certificates.NAMED if certificates.found(it, call.path))] if name == "all" else [name]
-    prover, made = certificates.prover(solvers.first_there(call.path)), [Never(call, row("never", 0.0, 0.2))]
+    prover, made = certificates.prover(call, solvers.first_there(call.path)), [Never(call, row("never", 0.0, 0.2))]
+    names = [it for it in (OWN, *certificates.NAMED) if not lacking(call, it)] if name == "all" else [name]
     for it in names:
+        if why := lacking(call, it):
+            raise solvers.NoSolver(why)
         if it == OWN:
             made.append(NeverSearch(call, row(it, 0.1, 0.3)))
         elif it in certificates.NAMED:
-            maker, program, package = certificates.NAMED[it]
-            path = certificates.found(it, call.path)
-            if path is None:
-                raise solvers.NoSolver(f"there is no command {program}: the package {package} has it")
-            if it == "glpk" and not (call.planner and call.judge):
-                raise solvers.NoSolver("there is no planner and no judge to tell the task")
-            made.append(maker(call, row(it, 0.1, 0.4), [path], prover))
+            made.append(certificates.NAMED[it][0](call, row(it, 0.1, 0.4), [certificates.found(it, call.path)], prover))
         else:
             words = options.command(it, call.path)
-            if words is None:
-                raise solvers.NoSolver(f"there is no command {it.split()[0]}; the searches are {', '.join([*certificates.NAMED, OWN, 'all'])}, "
-                                       "or a program, called as WORDS SYSTEM CERTIFICATE")
             made.append(certificates.Other(call, row(os.path.basename(words[0]), 0.1, 0.4), words, prover))
     return made
+
+
+def lacking(call, name):
+    """What a search lacks, in words; nothing where it lacks nothing."""
+    if name == OWN:
+        return certificates.without(call, OWN)
+    if name in certificates.NAMED:
+        return certificates.lacking(call, name)
+    if options.command(name, call.path) is None:
+        names = ", ".join([*certificates.NAMED, OWN, "all"])
+        return f"there is no command {name.split()[0]}; the searches are {names}, or a program, called as WORDS SYSTEM CERTIFICATE"
+    return certificates.without(call, "system")
 
 
 def run(root, programs, words):
@@ -54,8 +59,8 @@ def run(root, programs, words):
     try:
         plain, given = options.read(words, 3, os.path.join(root, "launch/help/never-by.txt"))
         call = Call(TOOL, root, programs, Wish(None, None, None), given)
-        if not call.judge_of_never:
-            raise solvers.NoSolver("there is no program here to judge certificates")
+        if why := certificates.without(call, "never"):
+            raise solvers.NoSolver(why)
         made = engines(call, plain[0])
         call.take_files(*plain[1:])
         target = planfile.CertificateFile(given["certificate"], plain[1:])

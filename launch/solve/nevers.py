@@ -39,7 +39,7 @@ class NeverSearch(Engine):
     def jobs(self):
         call = self.call
         for budget in BUDGETS:
-            came = yield Job(part([call.judge_of_never, "never-search", call.domain, call.problem, "--budget", str(budget)],
+            came = yield Job(part([call.programs["never-search"], "never-search", call.domain, call.problem, "--budget", str(budget)],
                                   memory=self.memory()))
             if came.status == 2:
                 self.tell(f"open after {budget} obligations")

@@ -34,9 +34,8 @@ def find_others(call, given):
     """The outside programs: those that are named have to be there, a solver that is not named may be."""
     if not call.planner:
         raise solvers.NoSolver("there is no planner to check plans")
-    there = {"plan"} | {it for it in ("search", "never") if getattr(call, {"search": "searcher", "never": "judge_of_never"}[it])}
-    if "never" in there and call.judge:
-        there |= {it for it in certificates.NAMED if certificates.found(it, call.path)}
+    there = {"plan"} | {it for it in ("search", "never", "never-search") if it in call.programs}
+    there |= {it for it in certificates.NAMED if not certificates.lacking(call, it)}
     if given["planner"]:
         call.planner_words = options.command(given["planner"], call.path)
         if call.planner_words is None:

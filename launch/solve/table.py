@@ -23,7 +23,7 @@ ROWS = [
     Row("search least", Search, 0.5, 1.0, 1, 1, 0.3, ["--how", "least"], "search"),
     Row("plan each", Race, 0.5, 1.0, 1, 1, 0.2, ["--growth", "101"], "plan"),
     Row("sat", Sat, 1.0, 2.0, 2, 64, 0.3, [], "solver"),
-    Row("never-search", NeverSearch, 1.0, 2.0, 1, 1, 0.2, [], "never"),
+    Row("never-search", NeverSearch, 1.0, 2.0, 1, 1, 0.2, [], "never-search"),
     Row("glpk", certificates.Glpk, 1.0, 2.0, 1, 1, 0.2, [], "glpk"),
     Row("abc", certificates.Abc, 2.0, 2.0, 1, 1, 0.2, [], "abc"),
 ]
@@ -36,7 +36,7 @@ def made(call, there, chosen):
         if row.needs not in there or chosen and row.name.replace(" ", "-") not in chosen:
             continue
         if row.needs in certificates.NAMED:
-            found.append(row.maker(call, row, [certificates.found(row.needs, call.path)], certificates.prover(call.solver_name)))
+            found.append(row.maker(call, row, [certificates.found(row.needs, call.path)], certificates.prover(call, call.solver_name)))
         else:
             found.append(row.maker(call, row, call.solver_name) if row.maker is Sat else row.maker(call, row))
     return found

@@ -49,7 +49,11 @@ fn put_forward(out: &mut Out, verdict: &ForwardVerdict) {
         ForwardVerdict::Initial(clause) => put(out, "forward initial #\n", &[u64::from(*clause)]),
         ForwardVerdict::Goal => put(out, "forward goal\n", &[]),
         ForwardVerdict::Pair(clause, act) => {
-            put(out, "forward clause # action #\n", &[u64::from(*clause), u64::from(*act)])
+            put(
+                out,
+                "forward clause # action #\n",
+                &[u64::from(*clause), u64::from(*act)],
+            )
         }
     }
 }
@@ -61,7 +65,11 @@ fn put_backward(out: &mut Out, verdict: &BackwardVerdict) {
         BackwardVerdict::Initial => put(out, "backward initial\n", &[]),
         BackwardVerdict::Goal(clause) => put(out, "backward goal #\n", &[u64::from(*clause)]),
         BackwardVerdict::Pair(clause, act) => {
-            put(out, "backward clause # action #\n", &[u64::from(*clause), u64::from(*act)])
+            put(
+                out,
+                "backward clause # action #\n",
+                &[u64::from(*clause), u64::from(*act)],
+            )
         }
     }
 }
@@ -81,7 +89,11 @@ fn put_exclusion(out: &mut Out, by: &Exclusion) {
         Exclusion::Open => put(out, "goal open\n", &[]),
         Exclusion::Hopeless => put(out, "goal hopeless\n", &[]),
         Exclusion::One(lit) => put(out, "goal without #\n", &[u64::from(*lit)]),
-        Exclusion::Two(lit, other) => put(out, "goal without # and #\n", &[u64::from(*lit), u64::from(*other)]),
+        Exclusion::Two(lit, other) => put(
+            out,
+            "goal without # and #\n",
+            &[u64::from(*lit), u64::from(*other)],
+        ),
     }
 }
 
@@ -95,9 +107,18 @@ fn put_checked(out: &mut Out, task: &Task, known: &Pairs, text: &str) -> Result<
         return Ok(());
     }
     match read(alloc, task.facts(), text.as_bytes())? {
-        Reading::Forward(clauses) => put_forward(out, &check_forward(alloc, task, known, &clauses)?),
-        Reading::Backward(clauses) => put_backward(out, &check_backward(alloc, task, known, &clauses)?),
-        Reading::Weights(weights) => put_weights(out, &check_weights(alloc, task, known, &weights)?),
+        Reading::Forward(clauses) => put_forward(
+            out,
+            &check_forward(alloc, task, known, &clauses)?,
+        ),
+        Reading::Backward(clauses) => put_backward(
+            out,
+            &check_backward(alloc, task, known, &clauses)?,
+        ),
+        Reading::Weights(weights) => put_weights(
+            out,
+            &check_weights(alloc, task, known, &weights)?,
+        ),
         Reading::Faulty { at, fault: _ } => put(out, "fault at #\n", &[at]),
     }
     Ok(())

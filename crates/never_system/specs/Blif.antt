@@ -76,6 +76,7 @@ abbrev pub maker_zeros : (literal : ℕ) → List Effect → List ℕ
 maker_zeros l [] = []
 maker_zeros l (e ∷ es) = (if e.literal == l then 48 ∷ [] else []) ++ maker_zeros l es
 
+-- the same of all actions
 abbrev pub all_maker_zeros : (literal : ℕ) → List Action → List ℕ
 all_maker_zeros l [] = []
 all_maker_zeros l (x ∷ xs) = maker_zeros l x.effects ++ all_maker_zeros l xs
@@ -118,6 +119,7 @@ unfoldable pub width_from : (more width count : ℕ) → ℕ
 width_from zero width count = width
 width_from (suc more) width count = if nat_le count (2 ^ width) then width else width_from more (width + 1) count
 
+-- how many bits the number of an action of the task takes
 unfoldable pub width_of : Task → ℕ
 width_of task = width_from 14 0 (length task.actions)
 

@@ -10,6 +10,7 @@ ghost use Rattle.search_top.specs.Seen.{seen, names_of, IsSized};
 ghost use Rattle.search_top.specs.Answers.{EndsWith, Answers};
 ghost use Rattle.search_top.specs.Causes.{ComesFor, Comes, names_in};
 
+use crate::never::{answer_certificate, answer_never};
 use crate::search::answer_search;
 use crate::{Ended, Request};
 use pl_io::Shelf;
@@ -86,5 +87,19 @@ fn answer<H: Threads + Sync>(
             *states,
             *memory,
         ),
+        Request::Never { .. } => {
+            answer_never(rt, alloc, files.domain.as_slice(), files.problem.as_slice())
+        }
+        Request::Certify { .. } => match &files.third {
+            Some(certificate) => answer_certificate(
+                rt,
+                alloc,
+                files.domain.as_slice(),
+                files.problem.as_slice(),
+                certificate.as_slice(),
+            ),
+            // The names are three.
+            None => unreachable!(),
+        },
     }
 }
