@@ -16,8 +16,13 @@ LIMIT = re.compile(r"; limit (tuples|facts|actions|effects) ([0-9]+)\Z")
 LINE = re.compile(r"; limit line ([0-9]+)\Z")
 LITERALS = re.compile(r"; limit literals ([0-9]+) horizon ([0-9]+)\Z")
 FILE_BYTES = {"proof": 16777216}
+LINES = {
+    "judge": "the proof has more than the 16777216 bytes that a line may have: is it a proof in text (CaDiCaL writes one with --no-binary)?",
+    "model": "the model has more than the 268435456 bytes that a line may have: is it what a solver printed?",
+}
+PROOFS = {"judge": "LRAT", "never": "certificate"}
 LITERALS_OF = {"formula": 16000000, "judge": 16000000, "model": 16000000}
-THIRD = {"check": (2, "plan"), "verify": (2, "proof"), "judge": (3, "proof"), "model": (3, "model")}
+THIRD = {"check": (2, "plan"), "verify": (2, "proof"), "judge": (3, "proof"), "model": (3, "model"), "never": (2, "proof")}
 BY_HORIZON = ("plan", "plan-all", "batch", "gen")
 ADVICE = {
     "domain": "comments and blanks count too, and objects that no action needs can go",
@@ -110,7 +115,7 @@ def tell_line(line, paths, command, called=None):
     A file may be called otherwise than by its path."""
     found = REFUSED.match(line)
     if found:
-        return tell_fault(Files(paths, called), found[1], found[2], int(found[3]), judged=command == "judge")
+        return tell_fault(Files(paths, called), found[1], found[2], int(found[3]), PROOFS.get(command, "proof"))
     found = UNREAD.match(line)
     if found:
         tell_unread(paths.get(found[1], ""), found[1])
@@ -130,7 +135,8 @@ def tell_length(path, which, command):
                       "report of plan with --alg c --width 1 and with --start and --max-horizon at that horizon")
         return
     size = pathlib.Path(path).stat().st_size
-    tell_at(path, f"limit: the file has {size} bytes, and a {which} may have {most}: {ADVICE.get(which, '')}")
+    tell_at(path, f"limit: the file has {size} bytes, and a {which} may have {most}: "
+            f"{'is it a certificate of never?' if command == 'never' and which == 'proof' else ADVICE.get(which, '')}")
 
 
 def tell_limit(line, command):
@@ -141,8 +147,7 @@ def tell_limit(line, command):
         return True
     found = LINE.match(line)
     if found:
-        launcher_says(f"limit: line {found[1]} of the proof has more than the 16777216 bytes that a line may have: is it a proof "
-                      "in text (CaDiCaL writes one with --no-binary)?")
+        launcher_says(f"limit: line {found[1]} of {LINES[command]}")
         return True
     found = LIMIT.match(line)
     if found:

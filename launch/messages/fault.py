@@ -75,12 +75,13 @@ def other_domain(files):
         yield "same", words[1].at, f"the problem is one of the domain '{words[1].word}', and the domain here is '{words[0].word}'"
 
 
-def tell_fault(files, kind, which, at, judged=False):
-    """Tells a refusal on standard error: the place, the line with a caret, the sentence, and notes. Whether the place is there."""
+def tell_fault(files, kind, which, at, proof="proof"):
+    """Tells a refusal on standard error: the place, the line with a caret, the sentence, and notes. Whether the place is there. What a
+    proof is to be is told: one of prove, LRAT, or a certificate of never."""
     source = files.get(which)
     if source is None or at > len(source.text):
         return False
-    sentence, notes = explained(files, kind, "LRAT" if judged and which == "proof" else which, at, source)
+    sentence, notes = explained(files, kind, proof if which == "proof" else which, at, source)
     tell(source, at, kind, sentence)
     for where, offset, text in notes:
         tell(source if where == "same" else files.get(where), offset, "note", text)

@@ -9,6 +9,8 @@ def of_syntax(source, at, which):
     """The sentence, by what stands at the offset."""
     if which == "proof":
         return "this line is none of a certificate, or of another spelling than the one that prove writes"
+    if which == "certificate":
+        return of_certificate(source, at)
     if which == "LRAT" and BINARY.search(source.text[at : at + 200]):
         return "this is no text: have the solver write the proof as text, as CaDiCaL does with --no-binary"
     if which == "LRAT":
@@ -34,6 +36,25 @@ def of_syntax(source, at, which):
         ask = ": is a parenthesis missing before it?" if source.text[at : at + 6].lower() == "define" else ""
         return f"a file is one list, and something stands before it{ask}"
     return "this byte may stand in a comment alone"
+
+
+def of_certificate(source, at):
+    """What is wrong in the line of a certificate of `never` that begins at an offset."""
+    kinds = ("clauses forward", "clauses backward", "weights")
+    lines = [line.split() for line in source.text[:at].split("\n")]
+    kind = next((" ".join(it) for it in lines if " ".join(it) in kinds), None)
+    words = source.text[at:].split("\n", 1)[0].split()
+    if kind is None:
+        return f"a certificate begins with a line {', '.join(f'`{it}`' for it in kinds[:2])} or `{kinds[2]}`"
+    bad = next((it for it in words if not re.match(r"-?(0|[1-9][0-9]*)\Z", it)), None)
+    if bad:
+        return f"'{bad}' is no number"
+    if kind == "weights":
+        return "a line of weights is a fact's number in `ground` plus 1, and its weight" if len(words) != 2 else \
+            "there is no such fact (`ground` lists them, from 0 on, and here they count from 1), or the weights' sum is past 2^63"
+    if words[-1] != "0" or "0" in words[:-1]:
+        return "a clause is one line, which ends with the number 0"
+    return "there is no such fact (`ground` lists them, from 0 on, and here they count from 1), or the clause has more than 4,096 literals"
 
 
 def lists_before(text, at):

@@ -9,7 +9,7 @@ use Rattle.cdcl_defs.specs.declared.standing.Standing.TheVariants.{Going}
 use Rattle.cdcl_defs.specs.declared.event.Event.{Event}
 use Rattle.cdcl_defs.specs.declared.event.Event.TheVariants.{Conflict, Decide, Finish}
 use Rattle.cdcl_defs.specs.declared.trail.Assigned.{Assigned}
-use Rattle.cdcl_defs.specs.State.{State, clause_at, is_on, values_of}
+use Rattle.cdcl_defs.specs.State.{State, clause_at, is_kept, is_on, values_of}
 use Rattle.cdcl_defs.specs.Trail.{AllFalse}
 use Rattle.cdcl_defs.specs.Pending.{open_ones, first_pending}
 use Rattle.cdcl_defs.specs.Event.{asked, chosen_event}
@@ -61,13 +61,14 @@ conflict_asks f s i n = conflict_by s i (first_pending s) (n.0 (values_of s.vari
 -- what a conflict's clause has
 pub record IsConflict (s : State) (i : ℕ) : Type 0 where
   pub in_range : i < length s.clauses
+  pub kept : is_kept s.kept i ≡ true
   pub rising : IsRising (clause_at s.clauses i)
   pub all_false : AllFalse s.trail (clause_at s.clauses i)
 
 pub conflict_is : (f : Cnf) (s : State) (i : ℕ) → IsSound f s → IsNextEvent f s (Conflict i) → IsConflict s i
 conflict_is f s i o n =
     let a = conflict_asks f s i n in
-    record { in_range = a.0.in_range; rising = at_clause IsRising s.clauses i tt (all_rising f.variables s.clauses o.lawful); all_false = a.1 }
+    record { in_range = a.0.in_range; kept = a.0.kept; rising = at_clause IsRising s.clauses i tt (all_rising f.variables s.clauses o.lawful); all_false = a.1 }
 
 -- the learned clause is sorted, false and over the variables
 pub learned_is_good : (f : Cnf) (s : State) (i : ℕ) → IsSound f s → IsNextEvent f s (Conflict i) → IsGood f.variables s.trail (learned s.clauses s.trail i).clause

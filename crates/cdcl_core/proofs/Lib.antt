@@ -2,6 +2,7 @@ pub mod Keeps
 pub mod Entries
 pub mod Entered
 pub mod Reasons
+pub mod Packs
 pub mod Scans
 pub mod Shorts
 pub mod Watching

@@ -1,5 +1,6 @@
 //! The drops of a restart: of the learned clauses that are kept, long, and forced no entry of the trail, the first half goes.
-ghost use Rattle.std.specs.Prelude.{◌≡◌, ◌<◌, ◌++◌, ◌&&◌, ℕ, not, nat_lt, map, length, slice_index_or, false, IfOk, OnOk, OnErr};
+ghost use Rattle.std.specs.Prelude.{◌≡◌, ◌<◌, ◌≤◌, ◌++◌, ◌&&◌, ℕ, not, nat_lt, map, length, slice_index_or, false, IfOk, OnOk, OnErr};
+ghost use Rattle.std.specs.List.{AllByRecursion};
 ghost use Rattle.clause_base.specs.declared.log.Entry.TheVariants.{Drop};
 ghost use Rattle.cdcl_defs.specs.State.{clause_at, is_kept};
 ghost use Rattle.cdcl_defs.specs.Reduce.{has_forced, candidates, first_half, kept_without};
@@ -62,6 +63,21 @@ fn forget(propagator: &mut Propagator, numbers: &[u32])
     }
 }
 
+/// Whether a clause is kept no more, and what holds of it, is the same; where there is memory for its name in the log, its literals
+/// are kept once, as bytes.
+fn pack_all(clauses: &Clauses, propagator: &mut Propagator, numbers: &[u32])
+    requires same { propagator.old.clauses ≡ all_clauses clauses.now }
+    requires learned { AllByRecursion (λ n. (length clauses.now.formula.clauses ≤ n) × (n < length (all_clauses clauses.now))) numbers.now }
+    requires gone { AllByRecursion (λ n. is_kept propagator.old.kept n ≡ false) numbers.now }
+    ensures { propagator.new ≡ propagator.old }
+{
+    for number in numbers {
+        if let Ok(literals) = clauses.literals(*number) {
+            propagator.pack(*number, literals);
+        }
+    }
+}
+
 /// Drops the first half of the candidates. After want of memory nothing has changed.
 pub fn reduce(
     alloc: Global,
@@ -78,5 +94,6 @@ pub fn reduce(
     let half = first_half(numbers.as_slice());
     clauses.drop_all(half)?;
     forget(propagator, half);
+    pack_all(clauses, propagator, half);
     Ok(())
 }

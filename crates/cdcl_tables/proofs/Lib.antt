@@ -4,6 +4,7 @@ pub mod Exacts
 pub mod Steps
 pub mod Whole
 pub mod Shapes
+pub mod Stores
 pub mod Linking
 pub mod ChainWalks
 pub mod Refilled

@@ -4,4 +4,5 @@ pub mod Linked
 pub mod Walk
 pub mod Assignment
 pub mod Mirrored
+pub mod Stored
 pub mod own

@@ -15,6 +15,7 @@
 //! node that stays costs no write of the chain, and one that moves or goes is taken out where the walk stands.
 #![tactic(auto)]
 
+pub mod added;
 pub mod assignment;
 pub mod chains;
 pub mod index;

@@ -7,7 +7,7 @@ use Rattle.gt_core.specs.Task.{Task}
 use Rattle.horizon_rates.specs.declared.settings.Settings.{Settings}
 use Rattle.pd_model.specs.declared.parts.Parts.{Parts}
 use Rattle.requests.specs.Seen.{Seen}
-use Rattle.input_files.specs.Limits.{most_of, AreShort}
+use Rattle.plan_tasks.specs.Limits.{most_of, AreShort}
 use Rattle.commands.specs.Files.{third_of, file_at}
 use Rattle.grounding_defs.specs.Grounded.{Grounded, IsGrounded}
 use Rattle.race_outcome.specs.declared.end.RaceEnd.{RaceEnd}

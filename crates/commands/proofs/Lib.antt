@@ -1,2 +1,4 @@
 pub mod Answered
 pub mod published
+pub mod Runs
+pub mod Ties

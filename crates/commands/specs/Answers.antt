@@ -14,14 +14,14 @@ use Rattle.plan_report.specs.Report.{report_of}
 use Rattle.plan_report.specs.Laws.{IsSmall}
 use Rattle.requests.specs.Seen.{Seen, Numbers, numbers, plans_by, checks, grounds, orders, generates, proves, verifies, batches}
 use Rattle.requests.specs.declared.request.Stepping.{Stepping}
-use Rattle.certificates.specs.Known.{IsOrdered, HasTooMany}
-use Rattle.certificates.specs.Certificate.{IsSpelled}
-use Rattle.certificates.specs.Proved.{Proves}
-use Rattle.certificates.specs.Judged.{Judges}
-use Rattle.certificates.specs.declared.prove.Proved.{Proved}
-use Rattle.certificates.specs.declared.prove.Proved.TheVariants as proved
-use Rattle.certificates.specs.declared.verify.Judged.{Judged}
-use Rattle.certificates.specs.declared.verify.Judged.TheVariants as judged
+use Rattle.commands.specs.Known.{IsOrdered, HasTooMany}
+use Rattle.commands.specs.Certificate.{IsSpelled}
+use Rattle.commands.specs.Proved.{Proves}
+use Rattle.commands.specs.Judged.{Judges}
+use Rattle.commands.specs.declared.prove.Proved.{Proved}
+use Rattle.commands.specs.declared.prove.Proved.TheVariants as proved
+use Rattle.commands.specs.declared.verify.Judged.{Judged}
+use Rattle.commands.specs.declared.verify.Judged.TheVariants as judged
 use Rattle.clause_base.specs.declared.log.Entry.{Entry}
 use Rattle.proof_log.specs.Place.{IsUnfitAt}
 use Rattle.commands.specs.Stepping.{places_by, is_plan_by}

@@ -3,7 +3,7 @@ use Rattle.std.specs.Prelude.{ℕ}
 use Rattle.plan_endings.specs.declared.ending.File.{File}
 use Rattle.plan_endings.specs.declared.ending.File.TheVariants.{Problem, Plan, Proof}
 use Rattle.requests.specs.Seen.{Seen, verifies, batches, generates}
-use Rattle.input_files.specs.Limits.{file_in}
+use Rattle.plan_tasks.specs.Limits.{file_in}
 
 -- what the files after the first two of a request are
 abbrev pub third_of : Seen → File

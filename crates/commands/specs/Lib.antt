@@ -4,3 +4,7 @@ pub mod Files
 pub mod Raced
 pub mod Generated
 pub mod Answers
+pub mod Known
+pub mod Certificate
+pub mod Proved
+pub mod Judged

@@ -13,7 +13,7 @@ use Rattle.race.specs.Input.{RaceInput}
 use Rattle.race.specs.Race as stage
 use Rattle.race.specs.Lines.{AreLines, EachRefuted}
 use Rattle.race.specs.Ends.{WherePlanned, AreStepsOf, AreActions, SumsWithin}
-use Rattle.certificates.specs.Known.{IsOrdered, form_of, choice_at, formula_at}
+use Rattle.commands.specs.Known.{IsOrdered, form_of, choice_at, formula_at}
 use Rattle.commands.specs.declared.raced.Known.{Known}
 use Rattle.plan_endings.specs.declared.ending.Outcome.{Outcome}
 use Rattle.plan_endings.specs.declared.ending.Outcome.TheVariants as outcomes

@@ -1,15 +1,15 @@
 //! What files come to for the commands on certificates.
 ghost use Rattle.std.specs.Prelude.{◌≡◌, ◌≤◌, length, IfOk};
 ghost use Rattle.containers.specs.Limits.{most_bytes, certificate_bytes};
-ghost use Rattle.certificates.specs.Certificate.{IsSpelled};
+ghost use Rattle.commands.specs.Certificate.{IsSpelled};
 ghost use Rattle.plan_endings.specs.Ends.{EndsAs, StopsBy};
 ghost use Rattle.commands.specs.Answers.{AnswersProve, AnswersVerify, RefusesProof, ending_of_run, ending_of_check};
 ghost use Rattle.commands.specs.Tasks.{OnceRead, OnceGrounded};
 ghost use Rattle.horizon_rates.specs.Limits.{last_horizon};
 
-use certificates::ProofError;
-use certificates::prove::{Proved, prove};
-use certificates::verify::{Judged, verify};
+use crate::ProofError;
+use crate::prove::{Proved, prove};
+use crate::verify::{Judged, verify};
 use pl_io::Bytes;
 use plan_endings::stop::{Stop, refuse};
 use plan_endings::{Ending, File, Kind};

@@ -11,11 +11,17 @@
 //! [`raced::known_of`], and tells of its race by [`reported::reported`].
 //!
 //! `raced` has the invariants, the order, the form and the race, `reported` the report on it, `answer` one function a command, `certify` the
-//! commands on certificates, `generated` the command `gen`.
+//! commands on certificates, `generated` the command `gen`. A certificate that a horizon has no plan is made by `prove`, from the run of the
+//! horizon, and accepted by `verify`, by the checker alone; `specs/Certificate.antt` says which texts are certificates.
 #![tactic(auto)]
 
 pub mod answer;
 mod certify;
+mod error;
 pub mod generated;
+pub mod prove;
 pub mod raced;
 pub mod reported;
+pub mod verify;
+
+pub use error::ProofError;

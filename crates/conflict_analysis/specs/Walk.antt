@@ -1,6 +1,7 @@
 use Rattle.std.specs.Prelude.{◌≡◌, ℕ, ◌<◌, ◌==◌, ◌&&◌, ◌⊎◌, List, Bool, true, not, length, All, Option, Some, None}
 use Rattle.clause_base.specs.Literal.{opposite}
 use Rattle.clause_base.specs.Clause.{has_literal}
+use Rattle.cdcl_tables.specs.Stored.{StoreView, CanRead}
 use Rattle.cdcl_defs.specs.declared.trail.Assigned.{Assigned}
 use Rattle.cdcl_defs.specs.State.{clause_at, is_on}
 
@@ -20,3 +21,12 @@ IsForcedBy clauses trail l (Some r) = (r < length clauses) × OthersFalse trail 
 -- each entry that was forced has its reason
 abbrev pub IsReasoned : List (List ℕ) → List Assigned → Type 0
 IsReasoned clauses trail = All (λ a. IsForcedBy clauses trail a.literal a.reason) trail
+
+-- the clause that forced an entry can be read
+abbrev pub IsReasonRead : StoreView → Option ℕ → Type 0
+IsReasonRead store None = Unit {0}
+IsReasonRead store (Some r) = CanRead store r
+
+-- the reason of each forced entry can be
+abbrev pub AreReasonsRead : StoreView → List Assigned → Type 0
+AreReasonsRead store trail = All (λ a. IsReasonRead store a.reason) trail

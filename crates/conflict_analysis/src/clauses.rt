@@ -1,11 +1,12 @@
 //! A solver's clauses by number: first come the formula's, then those that the log learns. Whoever wants the literals of a
 //! learned clause reads them in the store of what is watched.
-ghost use Rattle.std.specs.Prelude.{◌≡◌, ◌<◌, ◌≤◌, ◌==◌, ◌∷◌, [], ◌++◌, true, not, map, filter, length, replicate, vec_capacity, if◌then◌else◌, IsOk, OnOk, OnErr};
+ghost use Rattle.std.specs.Prelude.{◌≡◌, ◌<◌, ◌≤◌, ◌==◌, ◌∷◌, [], ◌++◌, true, not, map, filter, length, replicate, vec_capacity, if◌then◌else◌, IsOk, IfOk, OnOk, OnErr};
 ghost use Rattle.std.specs.List.{list_any};
 ghost use Rattle.clause_base.specs.Clause.{IsClause, IsRising};
 ghost use Rattle.clause_base.specs.Derivation.{clauses_of};
 ghost use Rattle.clause_base.specs.declared.log.Entry.TheVariants.{Learn, Drop};
 ghost use Rattle.cdcl_defs.specs.Reduce.{kept_without};
+ghost use Rattle.cdcl_defs.specs.State.{clause_at};
 ghost use Rattle.conflict_analysis.specs.Clauses.{all_clauses};
 ghost use Rattle.conflict_analysis.specs.Longs.{long_ones};
 
@@ -13,6 +14,7 @@ use clause_base::formula::Formula;
 use clause_base::literal::Lit;
 use containers::memory::Memory;
 use containers::{SharedListOf, let_go};
+use proof_log::literals::Literals;
 use proof_log::log::Log;
 use std::alloc::{AllocError, Global};
 use std::marker::Model;
@@ -142,12 +144,22 @@ impl Clauses {
         Ok(())
     }
 
+    /// The literals of a learned clause, in the memory that they are in.
+    pub fn literals(&self, number: u32) -> Result<Literals, Memory>
+        requires learned { length self.now.formula.clauses ≤ number }
+        requires inside { number < length (all_clauses self.now) }
+        ensures { IfOk result (λ literals. literals ≡ clause_at (all_clauses self.now) number) }
+    {
+        self.log.literals((number - self.formula.count()) as usize)
+    }
+
     /// Drops the clauses with these numbers, which rise. After want of memory nothing has changed.
     pub fn drop_all(&mut self, numbers: &[u32]) -> Result<(), Memory>
         requires rising { IsRising numbers.now }
         ensures ok { OnOk result (self.new ≡ record self.old { log = self.old.log ++ map (λ n. Drop n) numbers.now; kept = kept_without self.old.kept numbers.now }) }
         ensures err { OnErr result (self.new ≡ self.old) }
     {
+        self.log.pack(numbers, self.formula.count())?;
         self.log.push_drops(numbers)?;
         keep_longs(&mut self.longs, numbers);
         Ok(())

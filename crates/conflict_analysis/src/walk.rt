@@ -3,7 +3,7 @@ ghost use Rattle.std.specs.Prelude.{◌≡◌, [], reverse, length, OnOk};
 ghost use Rattle.cdcl_defs.specs.State.{decision_count};
 ghost use Rattle.cdcl_defs.specs.Learn.{walk};
 ghost use Rattle.conflict_analysis.specs.own.Resolvent.{literals, seen, AreMarks};
-ghost use Rattle.conflict_analysis.specs.Walk.{stops, IsReasoned};
+ghost use Rattle.conflict_analysis.specs.Walk.{AreReasonsRead, stops, IsReasoned};
 
 use crate::resolvent::Resolvent;
 use cdcl_tables::lookup::Lookup;
@@ -28,10 +28,11 @@ pub(crate) fn walk_back(
     level: u32,
 ) -> Result<(), Memory>
     requires over { AreMarks trail.now resolvent.old }
-    requires reasoned { IsReasoned store.now trail.now.entries }
+    requires reasoned { IsReasoned store.now.clauses trail.now.entries }
+    requires read { AreReasonsRead store.now trail.now.entries }
     requires level { level ≡ decision_count trail.now.entries }
     ensures over { OnOk result (AreMarks trail.now resolvent.new) }
-    ensures walked { OnOk result (walk store.now trail.now.entries (reverse trail.now.entries) (record { clause = literals (seen trail.now resolvent.old); hints = [] }) ≡ record { clause = literals (seen trail.now resolvent.new); hints = reverse hints.new.items }) }
+    ensures walked { OnOk result (walk store.now.clauses trail.now.entries (reverse trail.now.entries) (record { clause = literals (seen trail.now resolvent.old); hints = [] }) ≡ record { clause = literals (seen trail.now resolvent.new); hints = reverse hints.new.items }) }
 {
     let entries = trail.entries();
     hints.clear();

@@ -7,13 +7,13 @@ use Rattle.step_plans.specs.Known.{form_of}
 use Rattle.plan_tasks.specs.Stepping.{places_by}
 use Rattle.plan_endings.specs.declared.ending.File.{File}
 use Rattle.plan_endings.specs.declared.ending.File.TheVariants.{Proof}
-use Rattle.input_files.specs.Limits.{file_in}
-use Rattle.input_files.specs.Files.{AreTaken, StopsFrom}
+use Rattle.plan_tasks.specs.Limits.{file_in}
+use Rattle.plan_tasks.specs.Files.{AreTaken, StopsFrom}
 use Rattle.plan_endings.specs.declared.ending.Ending.{Ending}
 use Rattle.judge_top.specs.Seen.{Seen, domain_of, problem_of}
 use Rattle.judge_top.specs.declared.ended.Ended.TheVariants.{Plain}
 use Rattle.judge_top.specs.Causes.{Answers, ComesFor, two_of}
-use Rattle.input_files.proofs.published.Hearing.{two_taken}
+use Rattle.plan_tasks.proofs.published.Hearing.{two_taken}
 use Rattle.requests.specs.declared.request.Stepping.{Stepping}
 use Rattle.judge_top.specs.declared.ended.Ended.{Ended}
 use Rattle.judge_top.specs.Answers.{TapeRun, tape_run, OnceReady, not_ready, ready, IsTold, AnswersJudge, AnswersModel, too_large, unread, judged, model}
@@ -50,7 +50,7 @@ judged_before first second s h before was tape le end (ready task g are is (judg
 
 told_before : (s : Stepping) (h before : ℕ) (was : Given) (tape : TapeRun) → before ≤ tape.faults → (said : Told) (form : OrderedTask) → IsTold (places_by s) h tape said form → IsTold (places_by s) h (since before was tape) said form
 told_before s h before was tape le told.Unread form k = rose_before before tape.faults tape.rises le k
-told_before s h before was tape le (told.NoText at) form k = k
+told_before s h before was tape le (told.Refused refusal) form k = k
 told_before s h before was tape le (told.NoModel clause) form k = k
 told_before s h before was tape le (told.Plan steps) form k = k
 

@@ -61,7 +61,7 @@ module _ (places : Task → List (List ℕ) → List (List ℕ × ℕ)) (is_plan
 -- the actions of a ground task have calls
 pub calls_below : (task : Parts) (g : Grounded) → IsGrounded task g → (said : Told) → IsBelow (length g.task.actions) said → IsBelow (length g.calls) said
 calls_below task g is told.Unread below = tt
-calls_below task g is (told.NoText at) below = tt
+calls_below task g is (told.Refused refusal) below = tt
 calls_below task g is (told.NoModel clause) below = tt
 calls_below task g is (told.Plan steps) below =
     let long : length g.task.actions ≡ length g.calls = ap (λ (t : Task). length t.actions) is.task ∙ length-map g.calls _ in

@@ -20,8 +20,8 @@ use Rattle.plan_endings.specs.declared.ending.File.{File}
 use Rattle.plan_endings.specs.declared.ending.File.TheVariants.{Proof}
 use Rattle.plan_endings.specs.declared.ending.Ending.{Ending}
 use Rattle.plan_endings.specs.declared.ending.Ending.TheVariants.{Listing}
-use Rattle.input_files.specs.Limits.{file_in}
-use Rattle.input_files.specs.Files.{StopsFrom, RoseAmong}
+use Rattle.plan_tasks.specs.Limits.{file_in}
+use Rattle.plan_tasks.specs.Files.{StopsFrom, RoseAmong}
 use Rattle.plan_tasks.specs.Stepping.{places_by}
 use Rattle.plan_tasks.specs.Tasks.{AreTask, IsReady, StopsTask, refused, past, RefusesTask, domain_tree, problem_tree, no_task, refusal_of}
 use Rattle.plan_tasks.specs.Claims.{Printed, OfFiles}
@@ -40,6 +40,7 @@ use Rattle.judge_top.specs.declared.ended.Ended.{Ended}
 use Rattle.judge_top.specs.declared.ended.Ended.TheVariants.{Plain, Unread, Usage}
 use Rattle.judge_top.specs.Answers.{TapeRun, HasOpened, OnceReady, not_ready, ready, AnswersFormula, AnswersJudge, AnswersModel, too_large, formula, unread, judged, model, ended_by, IsUnread, TellsTooMany, word_of}
 use Rattle.judge_top.specs.declared.model.Told.TheVariants as tolds
+use Rattle.sat_text.specs.declared.value_reader.Refused.TheVariants as refusals
 use Rattle.judge_top.proofs.Given.{itself}
 use Rattle.judge_top.specs.Causes.{Answers, Comes, no_request, asked, ComesFor, StopsAt, OfTaken, HasFault, names_in, two_of}
 use Rattle.judge_top.specs.Headline.{IsProvedNone, PlanRunsIn, TellsFormula, WhenRead, OfVerdict, IsAccepted, IsRejected, IsNoProof, OrNoTask, TellsModel, TellsNoModel, TellsNoText, IsModelTold, IsNoModelTold, IsNoTextTold}
@@ -173,7 +174,8 @@ module _ (heard hears : List Heard) (failed fails : List (List ℕ)) (tape : Tap
   model_low names first second s h end (not_ready plain_end stops e) = inr (not_ready_low first second plain_end end stops e).1
   model_low names first second s h end (ready task g are is (too_large plain_end over e)) = inr (let four = ap status_of e ∙ ap plain.status_of over.1 in omega (arith, four))
   model_low names first second s h end (ready task g are is (model tolds.Unread known small e)) = inl (ap status_of e, inr known.holds)
-  model_low names first second s h end (ready task g are is (model (tolds.NoText at) known small e)) = inr (let three = ap status_of e in omega (arith, three))
+  model_low names first second s h end (ready task g are is (model (tolds.Refused (refusals.NoText at)) known small e)) = inr (let three = ap status_of e in omega (arith, three))
+  model_low names first second s h end (ready task g are is (model (tolds.Refused (refusals.LongLine line)) known small e)) = inr (let four = ap status_of e in omega (arith, four))
   model_low names first second s h end (ready task g are is (model (tolds.NoModel clause) known small e)) = inr (let one = ap status_of e in omega (arith, one))
   model_low names first second s h end (ready task g are is (model (tolds.Plan steps) known small e)) = inr (let zero = ap status_of e in omega (arith, zero))
 
@@ -372,7 +374,8 @@ module _ (heard hears : List Heard) (failed fails : List (List ℕ)) (tape : Tap
       planned : (end : Ended) → status_of end ≡ 0 → text ≡ text_of end → (task : Parts) (g : Grounded) → IsReady task g → AnswersModel how horizon tape task g end → PlanRunsIn how horizon text task
       planned end at same task g is (too_large plain_end over e) = not_limit 0 how horizon g end (omega arith) at plain_end over e
       planned end at same task g is (model tolds.Unread known small e) = absurd (let five = ap status_of e in omega (arith, five, at))
-      planned end at same task g is (model (tolds.NoText place) known small e) = absurd (let three = ap status_of e in omega (arith, three, at))
+      planned end at same task g is (model (tolds.Refused (refusals.NoText place)) known small e) = absurd (let three = ap status_of e in omega (arith, three, at))
+      planned end at same task g is (model (tolds.Refused (refusals.LongLine line)) known small e) = absurd (let four = ap status_of e in omega (arith, four, at))
       planned end at same task g is (model (tolds.NoModel clause) known small e) = absurd (let one = ap status_of e in omega (arith, one, at))
       planned end at same task g is (model (tolds.Plan steps) known small e) =
           let values = known.holds.0 in
@@ -398,7 +401,8 @@ module _ (heard hears : List Heard) (failed fails : List (List ℕ)) (tape : Tap
     tells_model : (end : Ended) → status_of end ≡ 0 → text ≡ text_of end → AnswersModel how horizon tape task g end → WhenRead tape.before given name (TellsModel how horizon given text) task
     tells_model end at same (too_large plain_end over e) = not_limit 0 how horizon g end (omega arith) at plain_end over e
     tells_model end at same (model tolds.Unread known small e) = absurd (let five = ap status_of e in omega (arith, five, at))
-    tells_model end at same (model (tolds.NoText place) known small e) = absurd (let three = ap status_of e in omega (arith, three, at))
+    tells_model end at same (model (tolds.Refused (refusals.NoText place)) known small e) = absurd (let three = ap status_of e in omega (arith, three, at))
+    tells_model end at same (model (tolds.Refused (refusals.LongLine line)) known small e) = absurd (let four = ap status_of e in omega (arith, four, at))
     tells_model end at same (model (tolds.NoModel clause) known small e) = absurd (let one = ap status_of e in omega (arith, one, at))
     tells_model end at same (model (tolds.Plan steps) known small e) =
         let h = known.holds in (
@@ -410,7 +414,8 @@ module _ (heard hears : List Heard) (failed fails : List (List ℕ)) (tape : Tap
     tells_no_model : (end : Ended) → status_of end ≡ 1 → text ≡ text_of end → AnswersModel how horizon tape task g end → WhenRead tape.before given name (TellsNoModel how horizon given text) task
     tells_no_model end at same (too_large plain_end over e) = not_limit 1 how horizon g end (omega arith) at plain_end over e
     tells_no_model end at same (model tolds.Unread known small e) = absurd (let five = ap status_of e in omega (arith, five, at))
-    tells_no_model end at same (model (tolds.NoText place) known small e) = absurd (let three = ap status_of e in omega (arith, three, at))
+    tells_no_model end at same (model (tolds.Refused (refusals.NoText place)) known small e) = absurd (let three = ap status_of e in omega (arith, three, at))
+    tells_no_model end at same (model (tolds.Refused (refusals.LongLine line)) known small e) = absurd (let four = ap status_of e in omega (arith, four, at))
     tells_no_model end at same (model (tolds.Plan steps) known small e) = absurd (let zero = ap status_of e in omega (arith, zero, at))
     tells_no_model end at same (model (tolds.NoModel clause) known small e) =
         let h = known.holds in
@@ -421,8 +426,9 @@ module _ (heard hears : List Heard) (failed fails : List (List ℕ)) (tape : Tap
     tells_no_text end at same (model tolds.Unread known small e) = absurd (let five = ap status_of e in omega (arith, five, at))
     tells_no_text end at same (model (tolds.NoModel clause) known small e) = absurd (let one = ap status_of e in omega (arith, one, at))
     tells_no_text end at same (model (tolds.Plan steps) known small e) = absurd (let zero = ap status_of e in omega (arith, zero, at))
-    tells_no_text end at same (model (tolds.NoText place) known small e) =
+    tells_no_text end at same (model (tolds.Refused (refusals.NoText place)) known small e) =
         (once known.holds.sound, claims.of_grounded laws task g ready_is known.clauses known.components known.ordered (IsNoTextTold how horizon given text task) (place, known.holds, same ∙ ap text_of e))
+    tells_no_text end at same (model (tolds.Refused (refusals.LongLine line)) known small e) = absurd (let four = ap status_of e in omega (arith, four, at))
 
   -- no model that could not be opened has such a status
   unopened : {A : Type 0} (n : ℕ) (end : Ended) → n ≤ 3 → status_of end ≡ n → end ≡ Unread → A

@@ -17,7 +17,8 @@ use Rattle.step_encoding.specs.Limits.{most_literals}
 use Rattle.step_encoding.specs.Numbers.{literals_of}
 use Rattle.step_plans.specs.Known.{IsOrdered, form_of, formula_at}
 use Rattle.sat_text.specs.FirstFalse.{IsFirstFalse}
-use Rattle.sat_text.specs.Values.{Reading, NoText as no_text, Values as values_read, model_of}
+use Rattle.sat_text.specs.Values.{Reading, Values as values_read, model_of, refused_by}
+use Rattle.sat_text.specs.declared.value_reader.Refused.TheVariants as refused
 use Rattle.plan_report.specs.Report.{plan_text}
 use Rattle.plan_report.specs.Laws.{IsSmallPlan}
 use Rattle.lrat_judge.specs.Verdicts.{verdict_of}
@@ -148,14 +149,14 @@ pub record IsReadAs (variables : ℕ) (given : tapes.Given) (reading : Reading) 
 -- what was read of a model's text, of the values of so many variables
 abbrev pub IsGiven : ℕ → TapeRun → Given → Type 0
 IsGiven variables tape given.Unread = Rose tape.faults tape.rises
-IsGiven variables tape (given.NoText at) = IsReadAs variables tape.given (no_text at)
+IsGiven variables tape (given.Refused refusal) = IsReadAs variables tape.given (refused_by refusal)
 IsGiven variables tape (given.Values reader) = IsReadAs variables tape.given (values_read reader.table.truths)
 
 -- What was made of a model's text, over a formula, where values stand for these steps: it could not be read; it is none; its values leave
 -- a clause untrue, and this is the first; or they are a model, and these are the steps that it stands for.
 abbrev pub IsToldOf : Cnf → (List Bool → List (List ℕ)) → TapeRun → Told → Type 0
 IsToldOf cnf stands tape told.Unread = Rose tape.faults tape.rises
-IsToldOf cnf stands tape (told.NoText at) = IsReadAs cnf.variables tape.given (no_text at)
+IsToldOf cnf stands tape (told.Refused refusal) = IsReadAs cnf.variables tape.given (refused_by refusal)
 IsToldOf cnf stands tape (told.NoModel clause) = (values : List Bool) × IsReadAs cnf.variables tape.given (values_read values) × IsFirstFalse (assignment_of values) cnf.clauses clause
 IsToldOf cnf stands tape (told.Plan steps) = (values : List Bool) × IsReadAs cnf.variables tape.given (values_read values) × IsModel cnf values × (steps ≡ stands values)
 
@@ -176,7 +177,8 @@ IsSmallTold horizon _ = Unit {0}
 -- how a run ends with it: steps are told as a plan
 abbrev pub ended_with : Parts → Grounded → ℕ → Told → Ended
 ended_with task g horizon told.Unread = Unread
-ended_with task g horizon (told.NoText at) = NoText at
+ended_with task g horizon (told.Refused (refused.NoText at)) = NoText at
+ended_with task g horizon (told.Refused (refused.LongLine line)) = TooLong line
 ended_with task g horizon (told.NoModel clause) = NoModel clause
 ended_with task g horizon (told.Plan steps) = Plain (Listing (plan_text task g horizon steps))
 

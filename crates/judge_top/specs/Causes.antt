@@ -2,8 +2,8 @@
 use Rattle.std.specs.Prelude.{◌≡◌, ◌⊎◌, ℕ, List, [], ◌∷◌, ◌++◌, Some, None}
 use Rattle.pl_io.specs.Outside.{Heard, whole, Rose}
 use Rattle.requests.specs.declared.request.Stepping.{Stepping}
-use Rattle.input_files.specs.Limits.{file_in}
-use Rattle.input_files.specs.Files.{StopsFrom, RoseAmong}
+use Rattle.plan_tasks.specs.Limits.{file_in}
+use Rattle.plan_tasks.specs.Files.{StopsFrom, RoseAmong}
 use Rattle.plan_endings.specs.declared.ending.Ending.{Ending}
 use Rattle.plan_endings.specs.declared.ending.File.TheVariants.{Proof}
 use Rattle.judge_top.specs.Seen.{Seen, formulas, judges, models, domain_of, problem_of}

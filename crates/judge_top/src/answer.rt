@@ -18,6 +18,7 @@ use plan_endings::stop::Stop;
 use plan_report::plan_text;
 use plan_tasks::ready::{Ready, read_ready};
 use requests::Stepping;
+use sat_text::value_reader::Refused;
 use std::alloc::Global;
 use std::thread::Threads;
 
@@ -111,7 +112,8 @@ fn ended_told(alloc: Global, ready: &Ready, horizon: u32, told: Told) -> Result<
 {
     match told {
         Told::Unread => Ok(Ended::Unread),
-        Told::NoText { at } => Ok(Ended::NoText { at }),
+        Told::Refused(Refused::NoText { at }) => Ok(Ended::NoText { at }),
+        Told::Refused(Refused::LongLine { line }) => Ok(Ended::TooLong { line }),
         Told::NoModel { clause } => Ok(Ended::NoModel { clause }),
         Told::Plan(steps) => {
             let steps = steps.as_slice();

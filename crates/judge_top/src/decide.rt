@@ -1,7 +1,7 @@
 //! How a run ends, before anything is written.
 ghost use Rattle.std.specs.Prelude.{◌≡◌, ◌≤◌, ℕ, List, length, map, string_bytes, None, Ok};
 ghost use Rattle.pl_io.specs.Outside.{Agrees, fault_count};
-ghost use Rattle.input_files.specs.Files.{NotesAmong};
+ghost use Rattle.plan_tasks.specs.Files.{NotesAmong};
 ghost use Rattle.containers.specs.Limits.{most_bytes};
 ghost use Rattle.judge_top.specs.Requested.{requested, command_named};
 ghost use Rattle.judge_top.specs.Seen.{seen, horizon_of};
@@ -12,10 +12,10 @@ ghost use Rattle.horizon_rates.specs.Limits.{last_horizon};
 use crate::answer::{answer_formula, answer_judge, answer_model};
 use crate::verdict::open;
 use crate::{Ended, Request};
-use input_files::take::{Names, take_all};
 use pl_io::{Shelf, TakeError, Tape};
 use plan_endings::File;
 use plan_endings::stop::Stop;
+use plan_tasks::take::{Names, take_all};
 use requests::{Stepping, read_words};
 use std::alloc::Global;
 use std::thread::Threads;

@@ -20,7 +20,7 @@ pub enum Ended {
     Refuted { horizon: u32, entries: u64 },
     /// This line of a proof, counted from 1, is the first that does not follow.
     Rejected { line: u64 },
-    /// This line of a proof, counted from 1, has more bytes than a line may have.
+    /// This line of a proof, or of a model, counted from 1, has more bytes than a line may have.
     TooLong { line: u64 },
     /// A line of a proof is none: the offset of its first byte.
     Syntax { at: u64 },

@@ -21,7 +21,7 @@ use pl_io::{Reading, TakeError, Tape};
 use plan_endings::stop::Stop;
 use requests::Stepping;
 use sat_text::first_false::first_false;
-use sat_text::value_reader::Reader;
+use sat_text::value_reader::{Reader, Refused};
 use std::alloc::Global;
 use std::thread::Threads;
 use step_encoding::exists::Components;
@@ -38,8 +38,8 @@ const PIECE: usize = 65536;
 pub enum Told {
     /// It could not be read.
     Unread,
-    /// It is none: the offset of the first byte of the line that tells, or its length, where its values have no end.
-    NoText { at: u64 },
+    /// It is none, or has a line that is too long.
+    Refused(Refused),
     /// This clause of the formula, counted from 0, is the first that its values do not make true.
     NoModel { clause: u32 },
     /// Its values satisfy the formula, and stand for these steps.
@@ -51,8 +51,8 @@ pub enum Told {
 pub enum Given {
     /// It could not be read.
     Unread,
-    /// It is none: an offset, as in `Told`.
-    NoText { at: u64 },
+    /// It is none, or has a line that is too long.
+    Refused(Refused),
     /// Its values.
     Values(Reader),
 }
@@ -62,7 +62,7 @@ fn finished(mut reader: Reader) -> Given
     ensures { (variables : ℕ) (given : GivenBytes) (tape : TapeRun) → HasRead variables given.bytes reader → given.reading ≡ Reading.Goes → tape.given ≡ given_more given [] → IsGiven variables tape result }
 {
     match reader.finish() {
-        Some(at) => Given::NoText { at },
+        Some(refused) => Given::Refused(refused),
         None => Given::Values(reader),
     }
 }
@@ -80,9 +80,8 @@ fn read_given<T: Tape>(alloc: Global, variables: u32, tape: &mut T) -> Result<Gi
         match tape.take(&mut piece) {
             Ok(0) => return Ok(finished(reader)),
             Ok(count) => {
-                let refused = reader.take(&piece[..count])?;
-                if let Some(at) = refused {
-                    return Ok(Given::NoText { at });
+                if let Some(refused) = reader.take(&piece[..count])? {
+                    return Ok(Given::Refused(refused));
                 }
             }
             Err(TakeError::Failed) => return Ok(Given::Unread),
@@ -134,7 +133,7 @@ fn told_of<F: StepForm, T: Tape>(
     let formula = formula_of(alloc, form, horizon)?;
     match read_given(alloc, formula.variables(), tape)? {
         Given::Unread => Ok(Told::Unread),
-        Given::NoText { at } => Ok(Told::NoText { at }),
+        Given::Refused(refused) => Ok(Told::Refused(refused)),
         Given::Values(reader) => {
             let told = told_values(alloc, form, horizon, &formula, reader.as_slice())?;
             Ok(told)

@@ -2,7 +2,7 @@
 ghost use Rattle.std.specs.Prelude.{◌≡◌, ◌≢◌, ◌≤◌, ℕ, List, [], ◌∷◌, map, string_bytes, Some, None, Contains};
 ghost use Rattle.pl_io.specs.Outside.{Agrees, appended, TakesFront, Rose, fault_count};
 ghost use Rattle.requests.specs.declared.request.Stepping.{Stepping};
-ghost use Rattle.input_files.specs.Files.{NotesAmong};
+ghost use Rattle.plan_tasks.specs.Files.{NotesAmong};
 ghost use Rattle.plan_tasks.specs.Claims.{Printed, OfFiles};
 ghost use Rattle.judge_top.specs.Requested.{requested, command_named};
 ghost use Rattle.judge_top.specs.Seen.{formulas, judges, models};

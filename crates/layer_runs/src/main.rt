@@ -7,6 +7,7 @@
 //! - `rooms ROOMS HORIZON SIZES` builds and sums up a large formula, and adds up the sizes of all horizons SIZES times;
 //! - `watches` makes literals true and takes them back over 100,000 clauses, `formulas` prints formulas of small tasks, clause by
 //!   clause, and `all-formulas` what is known of two formulas of all-steps;
+//! - `never` checks certificates that small tasks have no plan, and tells what excludes their goals;
 //! - `all` makes a run of each but `forms`, each under a line with its first word.
 //!
 //! The gate runs `all`. The file `stdout` is not this program's: scripts that read the definitions plainly wrote it, or it was worked
@@ -26,6 +27,7 @@ mod lines;
 mod logs;
 mod long_log;
 mod model;
+mod never;
 mod propagations;
 mod solver;
 mod watched;
@@ -38,7 +40,7 @@ use std::{env, fs, io};
 
 /// The runs of the word `all`.
 const ALL: &str =
-    "solve|check|watches|order none ring conditional|invariants takers|rooms 1000 95 1|formulas|all-formulas";
+    "solve|check|watches|order none ring conditional|invariants takers|rooms 1000 95 1|formulas|all-formulas|never";
 
 /// What a run has of the system.
 trait Host: Input + Files + AllocGlobal + Threads + Sync {}
@@ -103,6 +105,7 @@ fn run(rt: &impl Host, out: &mut Out, first: &str, others: &[String]) {
         "rooms" => sum_up(out, others),
         "formulas" => formulas::put_tasks(out),
         "all-formulas" => all_formulas::put_tasks(rt, out),
+        "never" => never::put_tasks(rt, out),
         _ => out.fail(),
     }
 }

@@ -14,7 +14,7 @@ use Rattle.lrat_judge.specs.Verdicts.{Outcome, Ends, Goes, most_line, outcome_kn
 use Rattle.lrat_judge.specs.Reached.{IsBefore, Comes, HasRead, has_no_end}
 use Rattle.lrat_judge.specs.declared.verdict.Verdict.{Verdict}
 use Rattle.lrat_judge.specs.declared.verdict.Verdict.TheVariants.{More, Refuted, Rejected, NotEmpty, Syntax, TooLong}
-use Rattle.sat_text.proofs.published.Texts.{Split, no_end, cut, split_line, lines_same, last_on, last_more}
+use Rattle.sat_text.proofs.published.Texts.{Split, no_end, cut, split_line, last_on, last_more}
 use Rattle.sat_text.proofs.published.Pieces as pieces
 
 -- no line ends the judging with a verdict by which it goes on

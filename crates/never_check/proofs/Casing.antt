@@ -1,10 +1,10 @@
 -- Cases one way after another.
-use Rattle.std.proofs.Common.{arith, ◌≡◌, ◌==◌, ◌≤◌, ℕ, zero, suc, List, [], ◌∷◌, ◌++◌, map, length, take, Bool, true, false, refl, ap, sym, ◌∙◌, subst, ◌⊎◌, inl, inr}
-use Rattle.std.specs.Prelude.{if◌then◌else◌}
+use Rattle.std.proofs.Common.{◌≡◌, ◌==◌, ◌≤◌, ℕ, List, [], ◌∷◌, ◌++◌, map, length, take, Bool, true, false, refl, ap, sym, ◌∙◌, subst, ◌⊎◌, inl, inr}
+use Rattle.std.specs.Prelude.{if◌then◌else◌, MatchBool}
 use Rattle.std.specs.List.{AllByRecursion, filter, flat_map}
 use Rattle.gt_core.specs.Literal.{opposite, is_in}
 use Rattle.gt_core.specs.Task.{Effect, Action}
-use Rattle.gt_core.proofs.published.Basics.{Among, apart}
+use Rattle.gt_core.proofs.published.Basics.{Among, each_from, apart}
 use Rattle.gt_core.proofs.published.Literals.{in_split, in_left, in_right}
 use Rattle.implied_literals.specs.Rows.{HasNoPair}
 use Rattle.never_defs.specs.Propagation.{IsLeft}
@@ -13,7 +13,7 @@ use Rattle.never_check.specs.Follow.{HasAll, Obeys, IsGrown, IsContradiction, Is
 use Rattle.never_check.specs.Rules.{AreFollowed}
 use Rattle.never_check.specs.Refuted.{ObeysMore, IsContradicted, AreContradicted, IsWayContradicted}
 use Rattle.never_check.specs.declared.rules.Rules.{Rules}
-use Rattle.never_check.proofs.Grown.{front_in}
+use Rattle.never_check.proofs.Grown.{front_in, front_part, either_way}
 use Rattle.never_check.proofs.Beginning.{each_map}
 
 pub all_joined : {A : Type 0} (P : A → Type 0) (xs ys : List A) → AllByRecursion P xs → AllByRecursion P ys → AllByRecursion P (xs ++ ys)
@@ -48,6 +48,17 @@ module _ (rules : Rules) (more : List (List ℕ)) (tr : List ℕ) where
   pub leaf_false : (x : Action) (new : List ℕ) → HasNoPair (is_in tr) → IsGrown (ObeysMore rules more) tr new × AreFollowed rules new new × AllByRecursion (Obeys (is_in new)) more → AreContradicted rules more tr (cases_of x []) → ⊥
   leaf_false x new none t all =
       all.0 (is_in new) ((record { given = tt; single = t.1.single; chain = t.1.chain }, t.1.unit), t.2) tt (front_in tr new t.0.front) (λ l i. absurd (apart _ i refl)) (t.0.apart none)
+
+  -- ---- what is settled before the ways part
+
+  pub settled_clash : IsContradiction (ObeysMore rules more) tr → (qs : List Case) → AreContradicted rules more tr qs
+  settled_clash k qs = each_from (IsContradicted rules more tr) qs (λ q i set obeys obq has hasq none. k set obeys has none)
+
+  pub settled_told : (new : List ℕ) → IsGrown (ObeysMore rules more) tr new → (qs : List Case) (b : Bool)
+      → MatchBool b (AreContradicted rules more new qs) (AreContradicted rules more new qs → ⊥) → MatchBool b (AreContradicted rules more tr qs) (AreContradicted rules more tr qs → ⊥)
+  settled_told new g qs b told =
+      either_way b (λ all. each_map (IsContradicted rules more new) (IsContradicted rules more tr) qs (λ q k set obeys obq has hasq none. k set obeys obq (g.sound set obeys has) hasq none) all)
+      (λ nay all. nay (each_map (IsContradicted rules more tr) (IsContradicted rules more new) qs (λ q k set obeys obq has hasq none. k set obeys obq (λ l i. has l (front_in tr new g.front l i)) hasq none) all)) told
 
   -- ---- one way
 
@@ -128,16 +139,6 @@ module _ (rules : Rules) (more : List (List ℕ)) (tr : List ℕ) where
     open_made true e nay all = let z : true ≡ false = e in absurd (let w : ⊥ = cc in w)
 
 -- ---- a trail with more literals is ready
-
-pub front_part : (a b : List ℕ) (n : ℕ) → take (length a) b ≡ a → n ≤ length a → take n b ≡ take n a
-front_part a b zero f h = refl
-front_part [] b (suc n) f h = absurd (omega arith)
-front_part (x ∷ a) [] (suc n) f h = let z : [] ≡ x ∷ a = f in absurd (let w : ⊥ = cc in w)
-front_part (x ∷ a) (y ∷ b) (suc n) f h =
-    let fh : y ∷ take (length a) b ≡ x ∷ a = f in
-    let f1 : y ≡ x = cc in
-    let f2 : take (length a) b ≡ a = cc in
-    ap (λ (ls : List ℕ). y ∷ ls) (front_part a b n f2 (omega arith)) ∙ ap (λ (k : ℕ). k ∷ take n a) f1
 
 pub followed_more : (known : List (ℕ × ℕ)) (clauses : List (List ℕ)) (old new : List ℕ) (from : ℕ) → from ≤ length old → take (length old) new ≡ old → IsFollowed known clauses (take from old) old → IsFollowed known clauses (take from new) new
 followed_more known clauses old new from le front f = subst (λ (ls : List ℕ). IsFollowed known clauses ls new) (sym (front_part old new from front le)) (record {

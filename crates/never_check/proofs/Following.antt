@@ -1,5 +1,5 @@
 -- What follows from one literal more.
-use Rattle.std.proofs.Common.{arith, ◌≡◌, ◌==◌, ◌<◌, ◌≤◌, ◌+◌, ℕ, zero, suc, List, [], ◌∷◌, length, take, drop, true, false, refl, ap, sym, ◌∙◌, subst, ◌⊎◌, inl, inr, Some, None, slice_get}
+use Rattle.std.proofs.Common.{arith, ◌≡◌, ◌==◌, ◌<◌, ◌+◌, ℕ, zero, suc, List, [], ◌∷◌, length, take, drop, true, false, refl, ap, sym, ◌∙◌, subst, ◌⊎◌, inl, inr, Some, None, slice_get}
 use Rattle.std.specs.Prelude.{slice_index, slice_index_or}
 use Rattle.std.specs.List.{AllByRecursion}
 use Rattle.std.proofs.lemmas.Bool.{cases_lt}
@@ -11,7 +11,7 @@ use Rattle.gt_core.proofs.published.Literals.{opposite_twice, in_split, in_among
 use Rattle.implied_literals.specs.Known.{IsFull}
 use Rattle.never_defs.specs.Propagation.{IsLeft}
 use Rattle.never_check.specs.Follow.{HasAll, Obeys, IsGrown, IsContradiction, ObeysAll, IsFollowed}
-use Rattle.never_check.proofs.Grown.{front_in, front_then, left_more, grown_then, grown_by}
+use Rattle.never_check.proofs.Grown.{front_in, front_part, front_then, left_more, grown_then, grown_by}
 use Rattle.never_check.proofs.Placed.{place_of, among_place}
 
 -- ---- the clauses one by one
@@ -62,24 +62,11 @@ told_each clauses old new numbers told k i m left =
 -- of the first literals up to one, it or one before
 pub one_more : (old new : List ℕ) (place lit : ℕ) → take (length old) new ≡ old → place < length old → lit ≡ slice_index old place → (x : ℕ) → is_in (take (place + 1) new) x ≡ true → (is_in (take place old) x ≡ true) ⊎ (lit ≡ x)
 one_more old new place lit front lt at x i =
-    let e = shorter old new place front lt in
+    let e = front_part old new (place + 1) front (omega (arith, lt)) in
     elim (in_split (take place old) (slice_index old place ∷ []) x (subst (λ (ls : List ℕ). is_in ls x ≡ true) (e ∙ take_more old place 0 lt) i)) [
       | inl h ↦ inl h
       | inr h ↦ elim (or_split _ _ h) [ inl s ↦ inr (at ∙ test_same _ x s) | inr n ↦ absurd (apart _ n refl) ]
     ]
-  where
-    shorter : (a b : List ℕ) (k : ℕ) → take (length a) b ≡ a → k < length a → take (k + 1) b ≡ take (k + 1) a
-    shorter a b k f h = front_part a b (k + 1) f (omega arith)
-      where
-        front_part : (a b : List ℕ) (n : ℕ) → take (length a) b ≡ a → n ≤ length a → take n b ≡ take n a
-        front_part a b zero f h = refl
-        front_part [] b (suc n) f h = absurd (omega arith)
-        front_part (x ∷ a) [] (suc n) f h = let z : [] ≡ x ∷ a = f in absurd (let w : ⊥ = cc in w)
-        front_part (x ∷ a) (y ∷ b) (suc n) f h =
-            let fh : y ∷ take (length a) b ≡ x ∷ a = f in
-            let f1 : y ≡ x = cc in
-            let f2 : take (length a) b ≡ a = cc in
-            ap (λ (ls : List ℕ). y ∷ ls) (front_part a b n f2 (omega arith)) ∙ ap (λ (k : ℕ). k ∷ take n a) f1
 
 module _ (known : List (ℕ × ℕ)) (clauses : List (List ℕ)) (old mid : List ℕ) (place lit : ℕ) (lt : place < length old) (at : lit ≡ slice_index old place)
     (followed : IsFollowed known clauses (take place old) old)

@@ -20,7 +20,7 @@ use Rattle.never_check.specs.Trail.{Reached}
 use Rattle.never_check.specs.Follow.{HasAll, AreBelow, Obeys, IsGrown, IsContradiction, AreUses}
 use Rattle.never_check.specs.Rules.{ObeysRules, ObeysWith, AreFollowed}
 use Rattle.never_check.specs.Refuted.{IsContradicted, AreContradicted}
-use Rattle.never_check.specs.Verdicts.{IsBase, IsAssumed, AreCasesRefuted, ArePassed, DoesNotPass}
+use Rattle.never_check.specs.Verdicts.{IsBase, IsLeast, IsAssumed, AreCasesRefuted, ArePassed, DoesNotPass}
 use Rattle.never_check.specs.declared.rules.Rules.{Rules}
 use Rattle.never_check.proofs.Grown.{front_in, grown_then, grown_by, either_way}
 use Rattle.never_check.proofs.Beginning.{each_map}
@@ -75,9 +75,9 @@ module _ (task : Task) (rules : Rules) (trail : Reached) (base : IsBase rules tr
   goal_fails new hope g goal = goal hope (is_in new) (trail_propagated rules (is_in task.goal) new g.1 g.2) (g.0.apart base.apart)
 
 module _ (rules : Rules) (trail : Reached) (base : IsBase rules trail) where
-  -- what has the precondition is assumed
-  pub now_assumed : (x : Action) (next : Reached) → next.facts ≡ trail.facts → IsGrown (ObeysWith rules x.precondition) trail.literals next.literals × AreFollowed rules next.literals next.literals × HasAll (is_in next.literals) x.precondition → IsAssumed rules x next
-  now_assumed x next facts g = record {
+  -- what has some literals, and all that follows, is the least such set
+  pub now_least : (given : List ℕ) (next : Reached) → next.facts ≡ trail.facts → IsGrown (ObeysWith rules given) trail.literals next.literals × AreFollowed rules next.literals next.literals × HasAll (is_in next.literals) given → IsLeast rules given next
+  now_least given next facts g = record {
     facts = facts ∙ base.facts;
     followed = g.1;
     apart = g.0.apart base.apart;
@@ -131,6 +131,10 @@ one_fails rules x e k uses among t = (
 
 pub goal_below : (task : Task) → is_task task ≡ true → AreBelow (2 * task.facts) task.goal
 goal_below task t = each_from _ task.goal (λ l i. let h : l / 2 < task.facts = each_at (λ (k : ℕ). k / 2 < task.facts) task.goal l (literals_within task.facts task.goal (lawful task t).goal) i in omega arith)
+
+-- the same of what reads the goal
+pub goal_lits_below : (task : Task) → is_task task ≡ true → (facts : ℕ) (lits : List ℕ) → facts ≡ task.facts → lits ≡ task.goal → AreBelow (2 * facts) lits
+goal_lits_below task lawful facts lits same is = subst (λ (ls : List ℕ). AreBelow (2 * facts) ls) (sym is) (subst (λ (k : ℕ). AreBelow (2 * k) task.goal) (sym same) (goal_below task lawful))
 
 pub action_fits : (task : Task) (a : ℕ) → is_task task ≡ true → a < length task.actions → ActionFits (2 * task.facts) (action task a)
 action_fits task a t lt = record {

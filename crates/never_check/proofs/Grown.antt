@@ -28,6 +28,17 @@ front_then (x ∷ a) (y ∷ b) (z ∷ c) f g =
     let same : z ≡ x = g1 ∙ f1 in
     ap (λ (ls : List ℕ). z ∷ ls) rest ∙ ap (λ (k : ℕ). k ∷ a) same
 
+-- what was there first is what was there
+pub front_part : (a b : List ℕ) (n : ℕ) → take (length a) b ≡ a → n ≤ length a → take n b ≡ take n a
+front_part a b zero f h = refl
+front_part [] b (suc n) f h = absurd (omega arith)
+front_part (x ∷ a) [] (suc n) f h = let z : [] ≡ x ∷ a = f in absurd (let w : ⊥ = cc in w)
+front_part (x ∷ a) (y ∷ b) (suc n) f h =
+    let fh : y ∷ take (length a) b ≡ x ∷ a = f in
+    let f1 : y ≡ x = cc in
+    let f2 : take (length a) b ≡ a = cc in
+    ap (λ (ls : List ℕ). y ∷ ls) (front_part a b n f2 (omega arith)) ∙ ap (λ (k : ℕ). k ∷ take n a) f1
+
 -- two opposite literals
 pub pair_from : (set : ℕ → Bool) (l : ℕ) → set l ≡ true → set (opposite l) ≡ true → HasNoPair set → ⊥
 pair_from set l t u none = by (l / 2) (grind arith)

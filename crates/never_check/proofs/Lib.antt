@@ -9,3 +9,9 @@ pub mod Settling
 pub mod Casing
 pub mod Forwarding
 pub mod Pairing
+pub mod Least
+pub mod Surely
+pub mod Weighing
+pub mod Stepping
+pub mod Excluding
+pub mod Turns

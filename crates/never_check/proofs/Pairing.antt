@@ -2,7 +2,7 @@
 use Rattle.std.proofs.Common.{arith, ◌≡◌, ◌==◌, ◌<◌, ◌+◌, ◌*◌, ℕ, zero, suc, List, [], ◌∷◌, ◌++◌, map, length, take, drop, get_or, Bool, true, false, refl, ap, sym, ◌∙◌, subst, inl, inr}
 use Rattle.std.specs.Prelude.{if◌then◌else◌, slice_index, MatchBool}
 use Rattle.std.specs.List.{AllByRecursion, filter}
-use Rattle.std.proofs.lemmas.List.{drop_more}
+use Rattle.std.proofs.lemmas.List.{drop_more, take_all}
 use Rattle.gt_core.specs.Literal.{opposite, is_in}
 use Rattle.gt_core.specs.Task.{Effect, Action}
 use Rattle.gt_core.proofs.published.Basics.{Among, each_at}
@@ -34,7 +34,7 @@ literal_below facts clause k lit below lt e =
     let one : slice_index clause k < 2 * facts = each_at (λ (l : ℕ). l < 2 * facts) clause (slice_index clause k) below (among_place clause k lt) in
     subst (λ (l : ℕ). l < 2 * facts) (sym e) (opposite_below (slice_index clause k) facts one)
 
-turned_below : (facts : ℕ) (ls : List ℕ) → AreBelow (2 * facts) ls → AreBelow (2 * facts) (map opposite ls)
+pub turned_below : (facts : ℕ) (ls : List ℕ) → AreBelow (2 * facts) ls → AreBelow (2 * facts) (map opposite ls)
 turned_below facts [] h = tt
 turned_below facts (l ∷ ls) h = (opposite_below l facts h.0, turned_below facts ls h.1)
 
@@ -68,6 +68,16 @@ module _ (pair : Pair) (held : Held) (trail next : Reached) (ready : IsReady pai
         (subst (λ (k : ℕ). AllByRecursion (AreBelow (2 * k)) (held.more.now ++ clauses)) (sym facts) (all_joined (AreBelow (2 * trail.facts)) held.more.now clauses ready.more below));
     within = let long = front_long trail.literals next.literals front in let w = ready.within in omega (arith, long, w, from);
     followed = subst (λ (k : ℕ). AreFollowed pair.rules.now (take k next.literals) next.literals) (sym from) (followed_more pair.rules.now.known.now.clauses pair.rules.now.clauses.now trail.literals next.literals held.from ready.within front ready.followed);
+    apart = apart ready.apart;
+  }
+
+  -- the same after all was followed
+  pub ready_settled : (other : Held) → other.more.now ≡ held.more.now → other.from ≡ length next.literals → AreFollowed pair.rules.now next.literals next.literals → IsReady pair other next
+  ready_settled other more from followed = record {
+    facts = facts ∙ ready.facts;
+    more = subst (λ (cs : List (List ℕ)). AllByRecursion (AreBelow (2 * next.facts)) cs) (sym more) (subst (λ (k : ℕ). AllByRecursion (AreBelow (2 * k)) held.more.now) (sym facts) ready.more);
+    within = omega (arith, from);
+    followed = subst (λ (ls : List ℕ). AreFollowed pair.rules.now ls next.literals) (sym (take_all other.from next.literals (omega (arith, from)))) followed;
     apart = apart ready.apart;
   }
 

@@ -5,3 +5,7 @@ pub mod Rules
 pub mod Refuted
 pub mod Pairs
 pub mod Verdicts
+pub mod Sure
+pub mod WeightsVerdicts
+pub mod BackwardVerdicts
+pub mod Exclusions

@@ -5,6 +5,7 @@ use Rattle.gt_core.specs.Literal.{is_in}
 use Rattle.gt_core.specs.Task.{Action, Task, action, initial_state}
 use Rattle.implied_literals.specs.Rows.{HasNoPair}
 use Rattle.never_defs.specs.Sets.{is_true_in}
+use Rattle.never_defs.specs.Propagation.{IsRefuted}
 use Rattle.never_defs.specs.Cases.{cases_of}
 use Rattle.never_defs.specs.Forward.{IsCaseRefuted, PassesForward, GoalPassesForward, IsForwardCertificate}
 use Rattle.never_check.specs.Trail.{Reached}
@@ -21,13 +22,25 @@ pub record IsBase (rules : Rules) (trail : Reached) : Type 0 where
   pub apart : HasNoPair (is_in trail.literals)
   pub sound : (set : ℕ → Bool) → ObeysRules rules set → HasAll set trail.literals
 
--- a trail has all that the rules tell of the precondition of an action
-pub record IsAssumed (rules : Rules) (x : Action) (trail : Reached) : Type 0 where
+-- a trail has what the rules tell of some literals, all of it and nothing else, and no two opposite literals
+pub record IsLeast (rules : Rules) (given : List ℕ) (trail : Reached) : Type 0 where
   pub facts : trail.facts ≡ rules.known.now.facts
   pub followed : AreFollowed rules trail.literals trail.literals
   pub apart : HasNoPair (is_in trail.literals)
-  pub sound : (set : ℕ → Bool) → ObeysWith rules x.precondition set → HasAll set trail.literals
-  pub has : HasAll (is_in trail.literals) x.precondition
+  pub sound : (set : ℕ → Bool) → ObeysWith rules given set → HasAll set trail.literals
+  pub has : HasAll (is_in trail.literals) given
+
+-- some literals are refuted by the rules
+abbrev pub AreRefuted : Rules → List ℕ → Type 0
+AreRefuted rules given = IsRefuted rules.known.now.clauses rules.clauses.now (is_in given)
+
+-- some literals have a least set, which is without two opposite literals
+abbrev pub HasLeast : Rules → List ℕ → Type 0
+HasLeast rules given = (trail : Reached) × IsLeast rules given trail
+
+-- a trail has all that the rules tell of the precondition of an action
+abbrev pub IsAssumed : Rules → Action → Reached → Type 0
+IsAssumed rules x trail = IsLeast rules x.precondition trail
 
 -- each case of the clause with a number is refuted
 abbrev pub AreCasesRefuted : Rules → Action → ℕ → Type 0

@@ -13,7 +13,7 @@ ghost use Rattle.never_check.specs.Pairs.{IsPairOf, IsReady};
 
 use crate::begin::assume;
 use crate::rules::Rules;
-use crate::settle::{joined, none_makes, settle, surely_makes};
+use crate::settle::{joined, none_makes, parts, settle, surely_makes};
 use crate::trail::Trail;
 use containers::FlatLists;
 use containers::memory::Memory;
@@ -36,9 +36,48 @@ pub struct Held<'a> {
     pub from: usize,
 }
 
-/// Whether each case of the literals of the clause from a place on is contradicted.
+/// Whether each case of the literals of the clause from a place on is contradicted. Where the ways part at
+/// the place, what is known already is settled first: often no way is left.
 #[cycle(refute)]
 pub fn refute_from(
+    alloc: Global,
+    pair: &Pair,
+    place: usize,
+    held: &Held,
+    trail: &mut Trail,
+) -> Result<bool, Memory>
+    requires pair { IsPairOf pair.now }
+    requires place { place ≤ length pair.now.clause.now }
+    requires ready { IsReady pair.now held.now trail.old }
+    ensures facts { OnOk result (trail.new.facts ≡ trail.old.facts) }
+    ensures front { OnOk result (take (length trail.old.literals) trail.new.literals ≡ trail.old.literals) }
+    ensures told { IfOk result (λ b. MatchBool b
+        (AreContradicted pair.now.rules.now held.now.more.now trail.old.literals (cases_of pair.now.act.now (drop place pair.now.clause.now)))
+        (AreContradicted pair.now.rules.now held.now.more.now trail.old.literals (cases_of pair.now.act.now (drop place pair.now.clause.now)) → ⊥)) }
+{
+    if place == pair.clause.len() || !parts(pair.act, opposite(pair.clause[place])) {
+        let refuted = refute_ways(alloc, pair, place, held, trail)?;
+        return Ok(refuted);
+    }
+    if settle(pair.rules, held.more, trail, held.from)? {
+        return Ok(true);
+    }
+    let refuted = refute_ways(
+        alloc,
+        pair,
+        place,
+        &Held {
+            more: held.more,
+            from: trail.len(),
+        },
+        trail,
+    )?;
+    Ok(refuted)
+}
+
+/// The same, way by way.
+#[cycle(refute)]
+fn refute_ways(
     alloc: Global,
     pair: &Pair,
     place: usize,

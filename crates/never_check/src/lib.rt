@@ -5,8 +5,11 @@
 //! (`trail`) that goes back to where it was.
 #![tactic(auto)]
 
+mod after;
+pub mod backward;
 mod begin;
 mod cases;
+pub mod excluded;
 pub mod forward;
 mod left;
 mod propagate;
@@ -15,3 +18,4 @@ mod rules;
 mod settle;
 pub mod trail;
 mod uses;
+pub mod weights;

@@ -1,10 +1,11 @@
 //! What literals come to that are given, over what clauses tell by themselves.
 
-ghost use Rattle.std.specs.Prelude.{◌≡◌, ℕ, ◌*◌, ◌≤◌, [], length, take, IfOk, OnOk, MatchBool};
+ghost use Rattle.std.specs.Prelude.{◌≡◌, ℕ, ◌*◌, ◌≤◌, ◌++◌, List, [], length, take, IfOk, OnOk, MatchBool};
 ghost use Rattle.std.specs.List.{AllByRecursion};
 ghost use Rattle.gt_core.specs.Literal.{is_in};
 ghost use Rattle.never_check.specs.Follow.{AreBelow, HasAll, IsGrown, IsContradiction};
 ghost use Rattle.never_check.specs.Rules.{AreRules, ObeysRules, AreFollowed, ObeysWith};
+ghost use Rattle.never_check.specs.Verdicts.{IsLeast, AreRefuted, HasLeast};
 
 use crate::begin::assume;
 use crate::propagate::propagate;
@@ -31,5 +32,21 @@ pub fn refutes(rules: &Rules, lits: &[u32], trail: &mut Trail) -> Result<bool, M
         return Ok(true);
     }
     let refuted = propagate(rules, trail, from)?;
+    Ok(refuted)
+}
+
+/// Whether literals are refuted, over a trail that has what some given ones come to. The trail is as it was.
+pub fn are_refuted(rules: &Rules, lits: &[u32], trail: &mut Trail) -> Result<bool, Memory>
+    requires rules { AreRules rules.now }
+    requires facts { trail.old.facts ≡ rules.now.known.now.facts }
+    requires lits { AreBelow (2 * trail.old.facts) lits.now }
+    requires followed { AreFollowed rules.now trail.old.literals trail.old.literals }
+    ensures kept { OnOk result (trail.new ≡ trail.old) }
+    ensures told { IfOk result (λ b. (given : List ℕ) → IsLeast rules.now given trail.old
+        → MatchBool b (AreRefuted rules.now (given ++ lits.now)) (HasLeast rules.now (given ++ lits.now))) }
+{
+    let from = trail.len();
+    let refuted = refutes(rules, lits, trail)?;
+    trail.go_back(from);
     Ok(refuted)
 }

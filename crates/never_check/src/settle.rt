@@ -1,9 +1,9 @@
 //! Unit propagation over some more clauses.
 
-ghost use Rattle.std.specs.Prelude.{◌≡◌, ℕ, ◌+◌, ◌*◌, ◌<◌, ◌≤◌, ◌++◌, [], true, length, take, map, IfOk, OnOk, MatchBool};
+ghost use Rattle.std.specs.Prelude.{◌≡◌, ℕ, ◌+◌, ◌*◌, ◌<◌, ◌≤◌, ◌++◌, ◌&&◌, not, [], true, length, take, map, IfOk, OnOk, MatchBool};
 ghost use Rattle.std.specs.List.{AllByRecursion};
 ghost use Rattle.gt_core.specs.Literal.{opposite, is_in};
-ghost use Rattle.gt_core.specs.Interference.{action_surely_makes};
+ghost use Rattle.gt_core.specs.Interference.{action_may_make, action_surely_makes};
 ghost use Rattle.never_defs.specs.Cases.{none_makes};
 ghost use Rattle.never_check.specs.Follow.{Obeys, AreBelow, IsGrown, IsContradiction};
 ghost use Rattle.never_check.specs.Rules.{AreRules, AreFollowed};
@@ -56,7 +56,7 @@ pub fn settle(
 }
 
 /// The opposites of literals.
-fn turned(alloc: Global, lits: &[u32]) -> Result<Vec<u32>, Memory>
+pub fn turned(alloc: Global, lits: &[u32]) -> Result<Vec<u32>, Memory>
     ensures { IfOk result (λ v. v.items ≡ map opposite lits.now) }
 {
     let mut list = Vec::new(alloc);
@@ -102,4 +102,18 @@ pub fn surely_makes(act: &Act, lit: u32) -> bool
     act.effects()
         .iter()
         .any(|effect| effect.lit() == lit && effect.cond().is_empty())
+}
+
+/// Whether an effect of an action has a literal.
+fn may_make(act: &Act, lit: u32) -> bool
+    ensures { result ≡ action_may_make act.now lit }
+{
+    act.effects().iter().any(|effect| effect.lit() == lit)
+}
+
+/// Whether there is more than one way in which a literal may hold afterwards: an effect makes it true, and none surely.
+pub fn parts(act: &Act, lit: u32) -> bool
+    ensures { result ≡ (action_may_make act.now lit && not (action_surely_makes act.now lit)) }
+{
+    may_make(act, lit) && !surely_makes(act, lit)
 }

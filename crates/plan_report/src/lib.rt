@@ -21,5 +21,5 @@ mod text;
 pub use listings::{push_ground, push_order};
 pub use report::{plan_text, report_text, summary_text};
 pub use step_plans::linear::linearise;
-pub use task_names::push_call;
+pub use task_names::{object_name, push_atom, push_call};
 pub use text::Text;

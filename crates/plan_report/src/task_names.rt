@@ -6,7 +6,7 @@ ghost use Rattle.pd_model.specs.Text.{predicate_name, object_name, schema_name, 
 use pd_model::{Atom, Call, Memory, Pddl};
 
 /// The name of an object.
-fn object_name(p: &Pddl, object: u32) -> &[u8]
+pub fn object_name(p: &Pddl, object: u32) -> &[u8]
     ensures { result.now ≡ object_name p.now object }
 {
     match p.objects().as_slice().get(object as usize) {
@@ -58,7 +58,7 @@ fn push_spelled(p: &Pddl, name: &[u8], objects: &[u32], text: &mut Vec<u8>) -> R
 }
 
 /// Appends an atom.
-pub(crate) fn push_atom(p: &Pddl, atom: &Atom, text: &mut Vec<u8>) -> Result<(), Memory>
+pub fn push_atom(p: &Pddl, atom: &Atom, text: &mut Vec<u8>) -> Result<(), Memory>
     ensures { OnOk result (text.new.items ≡ text.old.items ++ atom_text p.now atom.now) }
 {
     push_spelled(

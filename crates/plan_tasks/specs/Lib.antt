@@ -4,3 +4,6 @@ pub mod Claims
 pub mod Laws
 pub mod ToldPlans
 pub mod PlanLaws
+pub mod Limits
+pub mod Files
+pub mod Named

@@ -10,10 +10,10 @@ use Rattle.plan_endings.specs.declared.ending.Ending.{Ending}
 use Rattle.plan_endings.specs.declared.ending.Ending.TheVariants.{ReadFault}
 use Rattle.plan_endings.specs.declared.ending.File.{File}
 use Rattle.plan_endings.specs.declared.ending.File.TheVariants.{Domain, Problem}
-use Rattle.input_files.specs.Limits.{most_of}
+use Rattle.plan_tasks.specs.Limits.{most_of}
 use Rattle.commands.specs.Files.{file_at}
 use Rattle.containers.specs.Limits.{most_bytes}
-use Rattle.input_files.specs.Files.{FaultsFrom, IsWhole, IsFront, IsWholeOrFront, AreTakenOrLong}
+use Rattle.plan_tasks.specs.Files.{FaultsFrom, IsWhole, IsFront, IsWholeOrFront, AreTakenOrLong}
 use Rattle.commands.specs.Tasks.{grounded}
 use Rattle.plan_top.specs.Causes.{HasRead, stopped, IsPartOf, ArePartsOf, Comes, unread, in_parts, is_answer}
 use Rattle.plan_top.specs.own.Parts.{IsBatch, IsShort, AnswersPart, AnswersBatch, IsRunOf, IsPart, IsSound, ArePrepared, AnswersRun, open_in, woven}
@@ -21,7 +21,7 @@ use Rattle.plan_top.specs.declared.parts.Part.{Part}
 use Rattle.plan_top.specs.declared.parts.Part.TheVariants as parts
 use Rattle.plan_top.specs.declared.parts.Run.{Run}
 use Rattle.plan_top.proofs.Complete.{batch_most}
-use Rattle.input_files.proofs.published.Taking.{kept_count}
+use Rattle.plan_tasks.proofs.published.Taking.{kept_count}
 use Rattle.plan_top.proofs.Told.{decides_answer, taken_comes}
 
 -- ---- files

@@ -30,18 +30,18 @@ use Rattle.plan_endings.specs.declared.ending.Ending.TheVariants.{Report, TooLar
 use Rattle.plan_endings.specs.declared.ending.File.{File}
 use Rattle.plan_endings.specs.declared.ending.File.TheVariants.{Domain, Problem}
 use Rattle.containers.specs.Limits.{most_bytes}
-use Rattle.input_files.specs.Limits.{AreShort, most_of}
+use Rattle.plan_tasks.specs.Limits.{AreShort, most_of}
 use Rattle.commands.specs.Files.{file_at}
-use Rattle.input_files.specs.Files.{IsFront, AreOf, StopsFrom, FaultsFrom, RoseAmong}
-use Rattle.input_files.proofs.published.Hearing.{front_long, taken_are, of_front}
+use Rattle.plan_tasks.specs.Files.{IsFront, AreOf, StopsFrom, FaultsFrom, RoseAmong}
+use Rattle.plan_tasks.proofs.published.Hearing.{front_long, taken_are, of_front}
 use Rattle.clause_base.specs.declared.log.Entry.{Entry}
 use Rattle.proof_log.specs.Place.{IsUnfitAt}
 use Rattle.proof_log.specs.Laws.{TextsAreFit}
-use Rattle.certificates.specs.Certificate.{IsSpelled}
-use Rattle.certificates.specs.declared.prove.Proved.{Proved}
-use Rattle.certificates.specs.declared.prove.Proved.TheVariants as proved
-use Rattle.certificates.specs.declared.verify.Judged.{Judged}
-use Rattle.certificates.specs.declared.verify.Judged.TheVariants as judged
+use Rattle.commands.specs.Certificate.{IsSpelled}
+use Rattle.commands.specs.declared.prove.Proved.{Proved}
+use Rattle.commands.specs.declared.prove.Proved.TheVariants as proved
+use Rattle.commands.specs.declared.verify.Judged.{Judged}
+use Rattle.commands.specs.declared.verify.Judged.TheVariants as judged
 use Rattle.commands.specs.Tasks.{AreTask, RefusesTask, IsTreeFault, domain_tree, problem_tree, no_task, OnceRead, not_read, read, refused, past, OnceGrounded, not_grounded, grounded, IsOver}
 use Rattle.commands.specs.Raced.{too_large, ended, outcome_of}
 use Rattle.commands.specs.Generated.{AnswersGenerated, RacesGenerated, generated_report}

@@ -12,3 +12,4 @@ pub mod RaceEnds
 pub mod Turns
 pub mod Batches
 pub mod Promises
+pub mod published

@@ -38,18 +38,18 @@ use Rattle.requests.specs.declared.request.Show.{Show}
 use Rattle.requests.specs.declared.request.Show.TheVariants as shows
 use Rattle.plan_endings.specs.declared.ending.Ending.{Ending}
 use Rattle.plan_endings.specs.declared.ending.Ending.TheVariants.{Report, Listing, Refused, TooLong, TooLarge, ReadFault}
-use Rattle.input_files.specs.Limits.{AreShort, most_of, file_in}
+use Rattle.plan_tasks.specs.Limits.{AreShort, most_of, file_in}
 use Rattle.commands.specs.Files.{third_of, file_at}
-use Rattle.input_files.specs.Files.{IsFront, AreOf, StopsFrom}
-use Rattle.input_files.proofs.published.Taking.{taken_short}
-use Rattle.input_files.proofs.published.Hearing.{front_long, whole_is, taken_are, of_front}
+use Rattle.plan_tasks.specs.Files.{IsFront, AreOf, StopsFrom}
+use Rattle.plan_tasks.proofs.published.Taking.{taken_short}
+use Rattle.plan_tasks.proofs.published.Hearing.{front_long, whole_is, taken_are, of_front}
 use Rattle.gt_core.specs.Published.{IsPublished}
-use Rattle.certificates.specs.Known.{IsOrdered, HasTooMany, form_of, choice_at, formula_at}
-use Rattle.certificates.specs.Proved.{proved_of}
-use Rattle.certificates.specs.Judged.{IsJudged}
-use Rattle.certificates.specs.declared.verify.Judged.{Judged}
-use Rattle.certificates.specs.declared.verify.Judged.TheVariants as judged
-use Rattle.plan_claims.specs.Laws.{Laws}
+use Rattle.commands.specs.Known.{IsOrdered, HasTooMany, form_of, choice_at, formula_at}
+use Rattle.commands.specs.Proved.{proved_of}
+use Rattle.commands.specs.Judged.{IsJudged}
+use Rattle.commands.specs.declared.verify.Judged.{Judged}
+use Rattle.commands.specs.declared.verify.Judged.TheVariants as judged
+use Rattle.plan_top.specs.Laws.{Laws}
 use Rattle.requests.specs.declared.request.Stepping.{Stepping}
 use Rattle.requests.specs.declared.request.Stepping.TheVariants.{Exists}
 use Rattle.commands.specs.Stepping.{places_by, is_plan_by}

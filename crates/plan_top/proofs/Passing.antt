@@ -14,15 +14,15 @@ use Rattle.formula_defs.specs.Variables.{chain_places}
 use Rattle.step_encoding.specs.Limits.{planner_literals}
 use Rattle.step_encoding.specs.Numbers.{literals_of}
 use Rattle.step_laws.specs.Form.{OrderedTask}
-use Rattle.certificates.specs.Known.{IsOrdered, form_of, formula_at}
-use Rattle.certificates.specs.Certificate.{IsCertificate}
-use Rattle.certificates.specs.Proved.{Proves, proved_as}
+use Rattle.commands.specs.Known.{IsOrdered, form_of, formula_at}
+use Rattle.commands.specs.Certificate.{IsCertificate}
+use Rattle.commands.specs.Proved.{Proves, proved_as}
 use Rattle.containers.specs.Limits.{certificate_bytes}
-use Rattle.certificates.specs.Judged.{IsJudged}
-use Rattle.certificates.specs.declared.prove.Proved.{Proved}
-use Rattle.certificates.specs.declared.prove.Proved.TheVariants as proved
-use Rattle.certificates.specs.declared.verify.Judged.{Judged}
-use Rattle.certificates.specs.declared.verify.Judged.TheVariants as judged
+use Rattle.commands.specs.Judged.{IsJudged}
+use Rattle.commands.specs.declared.prove.Proved.{Proved}
+use Rattle.commands.specs.declared.prove.Proved.TheVariants as proved
+use Rattle.commands.specs.declared.verify.Judged.{Judged}
+use Rattle.commands.specs.declared.verify.Judged.TheVariants as judged
 use Rattle.requests.specs.Seen.{proves, verifies}
 use Rattle.requests.specs.declared.request.Stepping.TheVariants.{Exists}
 use Rattle.plan_endings.specs.declared.ending.File.TheVariants.{Proof}
@@ -32,7 +32,7 @@ use Rattle.plan_endings.specs.Ending.{status_of}
 use Rattle.commands.specs.Files.{file_at}
 use Rattle.commands.specs.Tasks.{IsReady, OnceRead, not_read, read, OnceGrounded, not_grounded, grounded}
 use Rattle.commands.specs.Answers.{AnswersProve, not_run, run, AnswersProof, not_checked, checked, AnswersVerify, unfit, beyond, spelled, ending_of_run, ending_of_check}
-use Rattle.plan_claims.specs.Laws.{Laws}
+use Rattle.plan_top.specs.Laws.{Laws}
 use Rattle.plan_top.specs.Causes.{HasRead, Comes}
 use Rattle.plan_top.specs.OneReport.{AskToVerify}
 use Rattle.plan_top.proofs.Told.{asked_comes}

@@ -27,8 +27,8 @@ use Rattle.plan_endings.specs.declared.ending.Outcome.TheVariants as outcomes
 use Rattle.plan_endings.specs.declared.ending.Ending.{Ending}
 use Rattle.plan_endings.specs.declared.ending.Ending.TheVariants.{Report, Listing, Reaches, Blocked, Short, Refused, TooLong, TooMany, TooLarge, ReadFault, Usage, Found, Open, Accepted, Rejected, NotEmpty, Parts as Batched}
 use Rattle.commands.specs.Files.{file_at}
-use Rattle.input_files.specs.Files.{AreTaken, StopsFrom, FaultsFrom, RoseAmong}
-use Rattle.input_files.proofs.published.Hearing.{two_taken, three_taken}
+use Rattle.plan_tasks.specs.Files.{AreTaken, StopsFrom, FaultsFrom, RoseAmong}
+use Rattle.plan_tasks.proofs.published.Hearing.{two_taken, three_taken}
 use Rattle.commands.specs.Stepping.{places_by, is_plan_by}
 use Rattle.commands.specs.Tasks.{AreTask, IsReady, OnceRead, not_read, read, OnceGrounded}
 use Rattle.commands.specs.Raced.{ComesTo}
@@ -39,25 +39,25 @@ use Rattle.clause_base.specs.Formula.{Cnf}
 use Rattle.clause_base.specs.Derivation.{IsRefutation}
 use Rattle.clause_base.specs.declared.log.Entry.{Entry}
 use Rattle.proof_log.specs.Text.{spaced, entry_words}
-use Rattle.certificates.specs.Known.{form_of, formula_at}
-use Rattle.certificates.specs.Certificate.{IsSpelled, IsCertificate}
-use Rattle.certificates.specs.Proved.{Proves}
-use Rattle.certificates.specs.Judged.{IsJudged, Judges}
-use Rattle.certificates.specs.declared.prove.Proved.{Proved}
-use Rattle.certificates.specs.declared.prove.Proved.TheVariants as proved
-use Rattle.certificates.specs.declared.verify.Judged.{Judged}
-use Rattle.certificates.specs.declared.verify.Judged.TheVariants as judged
+use Rattle.commands.specs.Known.{form_of, formula_at}
+use Rattle.commands.specs.Certificate.{IsSpelled, IsCertificate}
+use Rattle.commands.specs.Proved.{Proves}
+use Rattle.commands.specs.Judged.{IsJudged, Judges}
+use Rattle.commands.specs.declared.prove.Proved.{Proved}
+use Rattle.commands.specs.declared.prove.Proved.TheVariants as proved
+use Rattle.commands.specs.declared.verify.Judged.{Judged}
+use Rattle.commands.specs.declared.verify.Judged.TheVariants as judged
 use Rattle.requests.specs.declared.request.Stepping.TheVariants.{Exists, All}
 use Rattle.plan_top.specs.Complete.{GoesWell, IsGood}
 use Rattle.plan_top.specs.OneReport.{AskForOne, AskForOnePart, AskToVerify, AskToProve}
 use Rattle.plan_endings.specs.Ending.{status_of, status_of_race, text_of, greatest, parts_text, batch_of, IsSmall}
-use Rattle.plan_claims.specs.Headline.{Printed, OfFiles, OfThreeFiles, OfPlans, PlanRuns, EveryOrderRuns, HasAtLeast, HasPlanOf, TellsExhausted, NoStepPlan, NoPlan, LineIsSo, SpendsAll, PartIsSo, Certifies, CertifiesNothing, ProvesNone, TellsGround, TellsOrder, AreCallsOfPlan, AreCallsOfNoPlan}
-use Rattle.plan_claims.specs.Laws.{Laws}
-use Rattle.plan_claims.proofs.published.Claims as claims
+use Rattle.plan_top.specs.Headline.{Printed, OfFiles, OfThreeFiles, OfPlans, PlanRuns, EveryOrderRuns, HasAtLeast, HasPlanOf, TellsExhausted, NoStepPlan, NoPlan, LineIsSo, SpendsAll, PartIsSo, Certifies, CertifiesNothing, ProvesNone, TellsGround, TellsOrder, AreCallsOfPlan, AreCallsOfNoPlan}
+use Rattle.plan_top.specs.Laws.{Laws}
+use Rattle.plan_top.proofs.published.Claims as claims
 use Rattle.plan_endings.proofs.published.Statuses.{six_seven, six_seven_eight}
 use Rattle.plan_top.proofs.Told.{asked_comes, asked_parts, not_asked_comes}
 use Rattle.plan_top.proofs.Reports.{is_stop, stop_says_nothing, printed_is, printed_front, nothing_said}
-use Rattle.plan_claims.proofs.published.Verdicts.{reaches_is_plan, plan_reaches}
+use Rattle.plan_top.proofs.published.Verdicts.{reaches_is_plan, plan_reaches}
 use Rattle.plan_top.proofs.Complete.{complete as goes_well}
 use Rattle.plan_top.proofs.OneReport.{one_ending, part_at, has_read}
 use Rattle.plan_top.proofs.Passing.{passes as certificate_passes}

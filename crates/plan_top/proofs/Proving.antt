@@ -19,11 +19,11 @@ use Rattle.race_outcome.specs.Ends.{Word, WordRefuted, WordDropped, WordOpen, Wo
 use Rattle.plan_report.specs.Report.{word_text}
 use Rattle.step_encoding.specs.Limits.{planner_literals}
 use Rattle.step_encoding.specs.Numbers.{literals_of}
-use Rattle.certificates.specs.Known.{IsOrdered, form_of, choice_at, formula_at}
-use Rattle.certificates.specs.Proved.{Proves, proved_as}
+use Rattle.commands.specs.Known.{IsOrdered, form_of, choice_at, formula_at}
+use Rattle.commands.specs.Proved.{Proves, proved_as}
 use Rattle.containers.specs.Limits.{certificate_bytes}
-use Rattle.certificates.specs.declared.prove.Proved.{Proved}
-use Rattle.certificates.specs.declared.prove.Proved.TheVariants as proved
+use Rattle.commands.specs.declared.prove.Proved.{Proved}
+use Rattle.commands.specs.declared.prove.Proved.TheVariants as proved
 use Rattle.requests.specs.Seen.{proves, plans}
 use Rattle.requests.specs.declared.request.Stepping.TheVariants.{Exists}
 use Rattle.plan_endings.specs.declared.ending.File.TheVariants.{Proof}
@@ -36,9 +36,9 @@ use Rattle.commands.specs.Stepping.{places_by}
 use Rattle.commands.specs.Tasks.{IsReady, OnceGrounded, not_grounded, grounded}
 use Rattle.commands.specs.Raced.{input_of}
 use Rattle.commands.specs.Answers.{AnswersProve, not_run, run, ending_of_run}
-use Rattle.plan_claims.specs.Headline.{OfGrounded, IsSo, LineIsSo, standing_of}
-use Rattle.plan_claims.specs.Laws.{Laws}
-use Rattle.plan_claims.proofs.published.Claims as claims
+use Rattle.plan_top.specs.Headline.{OfGrounded, IsSo, LineIsSo, standing_of}
+use Rattle.plan_top.specs.Laws.{Laws}
+use Rattle.plan_top.proofs.published.Claims as claims
 use Rattle.plan_top.specs.Causes.{HasRead, Comes}
 use Rattle.plan_top.specs.OneReport.{AskToProve}
 use Rattle.plan_top.proofs.Fits.{line_fits}

@@ -17,17 +17,17 @@ use Rattle.requests.specs.Seen.{numbers}
 use Rattle.requests.specs.declared.request.Stepping.{Stepping}
 use Rattle.plan_endings.specs.declared.ending.Ending.{Ending}
 use Rattle.plan_endings.specs.declared.ending.Ending.TheVariants.{Report}
-use Rattle.input_files.specs.Files.{StopsFrom}
+use Rattle.plan_tasks.specs.Files.{StopsFrom}
 use Rattle.commands.specs.Stepping.{places_by, is_plan_by}
 use Rattle.commands.specs.Tasks.{AreTask, RefusesTask, IsReady, StopsTask, refused, past, OnceGrounded, not_grounded, grounded}
 use Rattle.commands.specs.Raced.{ComesTo, too_large, ended, outcome_of}
 use Rattle.commands.specs.Answers.{AnswersPlan, refusal_of_plan}
 use Rattle.requests.specs.declared.request.Stepping.TheVariants.{All}
 use Rattle.plan_endings.specs.Ending.{status_of, status_of_race, text_of}
-use Rattle.plan_claims.specs.Headline.{PlanRuns, EveryOrderRuns, TellsExhausted, SpendsAll}
-use Rattle.plan_claims.specs.Laws.{Laws}
-use Rattle.plan_claims.proofs.published.Claims as claims
-use Rattle.plan_claims.proofs.published.EveryOrder.{every_order}
+use Rattle.plan_top.specs.Headline.{PlanRuns, EveryOrderRuns, TellsExhausted, SpendsAll}
+use Rattle.plan_top.specs.Laws.{Laws}
+use Rattle.plan_top.proofs.published.Claims as claims
+use Rattle.plan_top.proofs.published.EveryOrder.{every_order}
 use Rattle.plan_top.proofs.Told.{task_refusal}
 use Rattle.plan_top.proofs.Reports.{is_stop, stop_status}
 

@@ -18,7 +18,7 @@ use Rattle.plan_endings.specs.declared.ending.Limit.TheVariants as limits
 use Rattle.plan_endings.specs.declared.ending.Ending.{Ending}
 use Rattle.plan_endings.specs.declared.ending.Ending.TheVariants.{Report, Listing, Reaches, Blocked, Short, Refused, TooLong, TooMany, TooLarge, ReadFault, Usage, Found, Open, Accepted, Rejected, NotEmpty, Parts}
 use Rattle.plan_endings.specs.Ending.{status_of, text_of, line_of, kind_word, limit_word, word_of, IsSmall}
-use Rattle.plan_claims.specs.Headline.{Printed}
+use Rattle.plan_top.specs.Headline.{Printed}
 use Rattle.plan_tasks.proofs.published.Printing.{front_cancels}
 pub use Rattle.plan_tasks.proofs.published.Printing.{printed_is}
 

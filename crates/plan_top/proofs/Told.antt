@@ -27,12 +27,12 @@ use Rattle.plan_endings.specs.declared.ending.Ending.TheVariants.{Refused, TooMa
 use Rattle.plan_endings.specs.declared.ending.Limit.{Limit}
 use Rattle.plan_endings.specs.Ending.{batch_of}
 use Rattle.commands.specs.Files.{file_at}
-use Rattle.input_files.specs.Files.{AreTaken, FaultsFrom}
+use Rattle.plan_tasks.specs.Files.{AreTaken, FaultsFrom}
 use Rattle.requests.specs.declared.request.Stepping.{Stepping}
-use Rattle.certificates.specs.declared.prove.Proved.{Proved}
-use Rattle.certificates.specs.declared.prove.Proved.TheVariants as proved
-use Rattle.certificates.specs.declared.verify.Judged.{Judged}
-use Rattle.certificates.specs.declared.verify.Judged.TheVariants as judged
+use Rattle.commands.specs.declared.prove.Proved.{Proved}
+use Rattle.commands.specs.declared.prove.Proved.TheVariants as proved
+use Rattle.commands.specs.declared.verify.Judged.{Judged}
+use Rattle.commands.specs.declared.verify.Judged.TheVariants as judged
 use Rattle.commands.specs.Tasks.{RefusesTask, domain_tree, problem_tree, no_task, input_of, refusal_of, OnceRead, not_read, read, refused, past, OnceGrounded, not_grounded, grounded}
 use Rattle.commands.specs.Raced.{too_large, ended}
 use Rattle.commands.specs.Generated.{AnswersGenerated, RacesGenerated}

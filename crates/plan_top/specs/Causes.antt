@@ -6,10 +6,10 @@ use Rattle.requests.specs.declared.request.Turns.{Turns}
 use Rattle.requests.specs.Requested.{requested}
 use Rattle.requests.specs.OneTask.{IsOfOne}
 use Rattle.plan_endings.specs.Ending.{batch_of, status_of, text_of}
-use Rattle.plan_claims.specs.Headline.{PartIsSo}
+use Rattle.plan_top.specs.Headline.{PartIsSo}
 use Rattle.commands.specs.Files.{file_at}
 use Rattle.commands.specs.Answers.{Decides}
-use Rattle.input_files.specs.Files.{AreTaken, StopsFrom, FaultsFrom, RoseAmong}
+use Rattle.plan_tasks.specs.Files.{AreTaken, StopsFrom, FaultsFrom, RoseAmong}
 use Rattle.plan_endings.specs.declared.ending.File.TheVariants.{Proof}
 use Rattle.plan_endings.specs.declared.ending.Ending.{Ending}
 use Rattle.plan_endings.specs.declared.ending.Ending.TheVariants.{Report, Listing, Reaches, Blocked, Short, Refused, TooLong, TooMany, TooLarge, ReadFault, Usage, Found, Open, Accepted, Rejected, NotEmpty}

@@ -10,12 +10,12 @@ use Rattle.grounding_defs.specs.Limits.{IsWithin}
 use Rattle.plan_gen.specs.Task.{domain_of, problem_of}
 use Rattle.requests.specs.Seen.{Seen, plans, plans_by, checks, grounds, orders, generates, proves, verifies, batches, files_of}
 use Rattle.requests.specs.Requested.{requested}
-use Rattle.input_files.specs.Limits.{AreShort}
+use Rattle.plan_tasks.specs.Limits.{AreShort}
 use Rattle.commands.specs.Files.{file_at}
-use Rattle.input_files.specs.Files.{AreOf, RoseAmong}
+use Rattle.plan_tasks.specs.Files.{AreOf, RoseAmong}
 use Rattle.commands.specs.Tasks.{AreTask}
 use Rattle.clause_base.specs.declared.log.Entry.{Entry}
-use Rattle.certificates.specs.Certificate.{IsSpelled}
+use Rattle.commands.specs.Certificate.{IsSpelled}
 use Rattle.commands.specs.Answers.{OfTwo, OfThree}
 use Rattle.plan_endings.specs.Ending.{status_of, batch_of}
 use Rattle.plan_endings.specs.declared.ending.Ending.{Ending}

@@ -1,7 +1,7 @@
 -- One ending for the same files: for every number of workers and every slice, in whatever turns, and whatever the files' names.
 use Rattle.std.specs.Prelude.{◌≡◌, ◌≤◌, ℕ, List, [], ◌∷◌, length, Some, slice_get}
 use Rattle.pl_io.specs.Outside.{Heard}
-use Rattle.input_files.specs.Files.{AreOf}
+use Rattle.plan_tasks.specs.Files.{AreOf}
 use Rattle.plan_gen.specs.declared.Kind.{Kind}
 use Rattle.requests.specs.Seen.{Seen, Numbers, plans, plans_by, checks, grounds, orders, generates, proves, verifies, batches, files_of}
 use Rattle.requests.specs.declared.request.Show.{Show}

@@ -8,11 +8,11 @@ ghost use Rattle.requests.specs.Seen.{Numbers, checks, grounds, orders, proves, 
 ghost use Rattle.requests.specs.declared.request.Stepping.TheVariants.{Exists, All};
 ghost use Rattle.requests.specs.declared.request.Turns.{Turns};
 ghost use Rattle.requests.specs.Requested.{requested, command_named};
-ghost use Rattle.input_files.specs.Files.{NotesAmong};
+ghost use Rattle.plan_tasks.specs.Files.{NotesAmong};
 ghost use Rattle.plan_top.specs.Causes.{Comes, IsBatchOf, ArePartsSo, HasRead, AskForBatch, FaultOf, names_in};
 ghost use Rattle.plan_top.specs.Complete.{GoesWell, IsGood};
 ghost use Rattle.plan_endings.specs.Ending.{status_of, text_of, greatest, parts_text};
-ghost use Rattle.plan_claims.specs.Headline.{Printed, OfFiles, OfThreeFiles, OfPlans, PlanRuns, EveryOrderRuns, HasAtLeast, HasPlanOf, TellsExhausted, NoStepPlan, NoPlan, LineIsSo, SpendsAll, Certifies, CertifiesNothing, ProvesNone, TellsGround, TellsOrder, AreCallsOfPlan, AreCallsOfNoPlan};
+ghost use Rattle.plan_top.specs.Headline.{Printed, OfFiles, OfThreeFiles, OfPlans, PlanRuns, EveryOrderRuns, HasAtLeast, HasPlanOf, TellsExhausted, NoStepPlan, NoPlan, LineIsSo, SpendsAll, Certifies, CertifiesNothing, ProvesNone, TellsGround, TellsOrder, AreCallsOfPlan, AreCallsOfNoPlan};
 ghost use Rattle.plan_top.specs.OneReport.{AskForOne, AskForOnePart, AskToVerify, AskToProve};
 ghost use Rattle.plan_endings.specs.declared.ending.Ending.{Ending};
 ghost use Rattle.plan_endings.specs.declared.ending.Ending.TheVariants.{Listing, Report, TooLong};
@@ -20,8 +20,8 @@ ghost use Rattle.plan_endings.specs.declared.ending.File.TheVariants.{Proof};
 ghost use Rattle.plan_endings.specs.declared.ending.Outcome.{Outcome};
 
 use crate::decide::decide;
+use crate::laws::laws;
 use pl_io::{Shelf, Sink};
-use plan_claims::laws::laws;
 use plan_endings::{Status, finish};
 use poll_batch::Driver;
 use solver_pool::Gate;

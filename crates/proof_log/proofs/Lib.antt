@@ -8,3 +8,4 @@ mod Lengths
 mod Lines
 mod Spelling
 pub mod published
+pub mod LiteralLaws

@@ -18,12 +18,12 @@ abbrev pub IsLawful : Step → Type 0
 IsLawful (Learn clause hints) = IsClause clause
 IsLawful (Drop number) = Unit {0}
 
--- the entry that does this, by these hints if it learns a clause
-abbrev pub told_by : Kind → List ℕ → Entry
-told_by (kind.Learn clause) hints = entry.Learn clause.now hints
-told_by (kind.Drop number) hints = entry.Drop number
+-- the entry that does this, with these literals and these hints if it learns a clause
+abbrev pub told_by : Kind → List ℕ → List ℕ → Entry
+told_by kind.Learn clause hints = entry.Learn clause hints
+told_by (kind.Drop number) clause hints = entry.Drop number
 
 -- the literals are a clause, if it learns one
-abbrev pub IsLawfulBy : Kind → Type 0
-IsLawfulBy (kind.Learn clause) = IsClause clause.now
-IsLawfulBy (kind.Drop number) = Unit {0}
+abbrev pub IsLawfulBy : Kind → List ℕ → Type 0
+IsLawfulBy kind.Learn clause = IsClause clause
+IsLawfulBy (kind.Drop number) clause = Unit {0}

@@ -27,6 +27,7 @@ mod entry;
 mod every_log;
 pub mod laws;
 mod length;
+pub mod literals;
 pub mod log;
 pub mod number;
 pub mod numbers;

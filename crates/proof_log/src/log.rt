@@ -1,7 +1,8 @@
-ghost use Rattle.std.specs.Prelude.{◌≡◌, ◌∷◌, [], ◌++◌, length, map, OnOk, OnErr};
+ghost use Rattle.std.specs.Prelude.{◌≡◌, ◌∷◌, [], ◌++◌, ◌<◌, length, map, slice_index_or, IfOk, OnOk, OnErr};
 ghost use Rattle.clause_base.specs.Clause.{IsClause};
 ghost use Rattle.clause_base.specs.Derivation.{clauses_of};
 
+use crate::literals::Literals;
 use crate::reader::Reader;
 use crate::steps::{add_drops, add_learned};
 use clause_base::literal::Lit;
@@ -12,11 +13,11 @@ use std::alloc::Global;
 use std::marker::Model;
 
 /// A list of entries: clauses that are learned from a formula and the entries before, and clauses that are dropped. The literals of a
-/// learned clause may be in memory that others share; its hints, and what is dropped, stand as bytes.
+/// learned clause may be in memory that others share, or stand as bytes; its hints, and what is dropped, stand as bytes.
 pub struct Log {
     alloc: Global,
     count: usize,
-    learned: Vec<SharedListOf<Lit>>,
+    learned: Vec<Literals>,
     steps: Vec<u8>,
 }
 
@@ -37,6 +38,33 @@ impl Drop for Log {
     fn drop(self) {
         let_go!(self: Log { alloc, count, learned, steps });
     }
+}
+
+/// Keeps the literals of the clause at a place as bytes, if there is one. The clauses are the same.
+fn pack_at(alloc: Global, learned: &mut Vec<Literals>, place: usize) -> Result<(), Memory>
+    ensures { learned.new.items ≡ learned.old.items }
+{
+    if place < learned.len() {
+        learned[place] = learned[place].packed(alloc)?;
+    }
+    Ok(())
+}
+
+/// Keeps the literals of the clauses with these numbers as bytes, where the first one has the number `first`. The clauses are the same.
+fn pack_all(
+    alloc: Global,
+    learned: &mut Vec<Literals>,
+    numbers: &[u32],
+    first: u32,
+) -> Result<(), Memory>
+    ensures { learned.new.items ≡ learned.old.items }
+{
+    for number in numbers {
+        if *number >= first {
+            pack_at(alloc, learned, (*number - first) as usize)?;
+        }
+    }
+    Ok(())
 }
 
 impl Log {
@@ -103,6 +131,22 @@ impl Log {
         add_drops(&mut self.steps, numbers)?;
         self.count += numbers.len();
         Ok(())
+    }
+
+    /// The literals of a learned clause, counted from 0 over all of these, in the memory that they are in.
+    pub fn literals(&self, place: usize) -> Result<Literals, Memory>
+        requires { place < length (clauses_of self.now) }
+        ensures { IfOk result (λ literals. literals ≡ slice_index_or (clauses_of self.now) place []) }
+    {
+        self.learned[place].copy()
+    }
+
+    /// Keeps the literals of some learned clauses as bytes, where the first one has this number. Numbers of no learned clause are
+    /// passed over. The entries are the same, after want of memory too.
+    pub fn pack(&mut self, numbers: &[u32], first: u32) -> Result<(), Memory>
+        ensures { self.new ≡ self.old }
+    {
+        pack_all(self.alloc, &mut self.learned, numbers, first)
     }
 
     /// Adds an entry at the end. After want of memory the log is unchanged.

@@ -1,12 +1,12 @@
-ghost use Rattle.std.specs.Prelude.{◌≡◌, ◌∷◌, [], ◌<◌, length, IfOk, OnErr, IfSome, IfNone};
+ghost use Rattle.std.specs.Prelude.{◌≡◌, ◌∷◌, [], ◌<◌, length, IfOk, OnOk, OnErr, IfSome, IfNone};
 ghost use Rattle.proof_log.specs.own.Numbers.{numbers_of, after_numbers};
 ghost use Rattle.proof_log.specs.own.Held.{entries_of, first_clause, other_clauses, AreSmall};
 ghost use Rattle.proof_log.specs.Step.{told, told_by, IsLawful, IsLawfulBy};
 
+use crate::literals::Literals;
 use crate::number::take_number;
 use crate::numbers::{Numbers, after_numbers, take_numbers};
 use clause_base::literal::Lit;
-use containers::SharedListOf;
 use containers::memory::Memory;
 use std::marker::Model;
 
@@ -24,11 +24,11 @@ pub enum Step<'a> {
     },
 }
 
-/// What an entry does, where its hints stand apart from it.
+/// What an entry does, where its literals and hints stand apart from it.
 #[derive(Clone, Copy)]
-pub enum Kind<'a> {
-    /// The clause is learned by the hints.
-    Learn { clause: &'a [Lit] },
+pub enum Kind {
+    /// The clause of the literals is learned by the hints.
+    Learn,
     /// The clause with this number is dropped.
     Drop { number: u32 },
 }
@@ -37,7 +37,7 @@ pub enum Kind<'a> {
 #[derive(Drop)]
 pub struct Reader<'a> {
     left: usize,
-    clauses: &'a [SharedListOf<Lit>],
+    clauses: &'a [Literals],
     steps: &'a [u8],
 }
 
@@ -53,33 +53,51 @@ impl<'a> Model for Reader<'a> {
     ghost invariant = { λ r. AreSmall (entries_of r.left r.clauses.now r.steps.now) };
 }
 
-/// The first of some clauses, and the others.
-#[derive(Clone, Copy)]
+/// The literals of the first of some clauses, and the others.
+#[derive(Drop)]
 struct First<'a> {
-    clause: &'a [Lit],
-    others: &'a [SharedListOf<Lit>],
+    clause: Numbers<'a>,
+    others: &'a [Literals],
 }
 
 /// Parts the first of some clauses from the others. Where there is none, it is the empty clause.
-fn first_of(clauses: &[SharedListOf<Lit>]) -> First<'_>
-    ensures clause { result.clause.now ≡ first_clause clauses.now }
+fn first_of(clauses: &[Literals]) -> First<'_>
+    ensures clause { result.clause ≡ first_clause clauses.now }
     ensures others { result.others.now ≡ other_clauses clauses.now }
 {
     match clauses.split_first() {
         Some((first, others)) => First {
-            clause: first.as_slice(),
+            clause: first.numbers(),
             others,
         },
         None => First {
-            clause: &[],
+            clause: Numbers::codes(&[]),
             others: clauses,
         },
     }
 }
 
+/// Puts the literals of the first of some clauses into a vector that is written over, and gives the other clauses. Where there is none,
+/// it is the empty clause.
+fn put_first<'a>(clauses: &'a [Literals], lits: &mut Vec<Lit>) -> Result<&'a [Literals], Memory>
+    ensures clause { OnOk result (lits.new.items ≡ first_clause clauses.now) }
+    ensures others { IfOk result (λ others. others.now ≡ other_clauses clauses.now) }
+{
+    match clauses.split_first() {
+        Some((first, others)) => {
+            first.put_into(lits)?;
+            Ok(others)
+        }
+        None => {
+            lits.clear();
+            Ok(clauses)
+        }
+    }
+}
+
 impl<'a> Reader<'a> {
     /// So many entries, which learn these clauses, and with whose bytes the bytes begin.
-    pub(crate) fn of(left: usize, clauses: &'a [SharedListOf<Lit>], steps: &'a [u8]) -> Reader<'a>
+    pub(crate) fn of(left: usize, clauses: &'a [Literals], steps: &'a [u8]) -> Reader<'a>
         requires { AreSmall (entries_of left clauses.now steps.now) }
         ensures { result ≡ entries_of left clauses.now steps.now }
     {
@@ -90,16 +108,16 @@ impl<'a> Reader<'a> {
         }
     }
 
-    /// Takes the next entry out, where one is left, and tells what it does. Its hints are decoded once: they go into a vector that is
-    /// written over. After want of memory no entry is taken out.
+    /// Takes the next entry out, where one is left, and tells what it does. Its literals and its hints are decoded once: they go into
+    /// two vectors that are written over. After want of memory no entry is taken out.
     /// In a program this is a call of its own too: written into the check of a log, its loop would leave too few registers to
     /// those over the hints' literals.
     #[inline(never)]
     #[tactic(auto, using(crate::proofs::HeldLaws::not_all_read))]
-    pub fn take_into(&mut self, hints: &mut Vec<u32>) -> Result<Kind<'a>, Memory>
+    pub fn take_into(&mut self, lits: &mut Vec<Lit>, hints: &mut Vec<u32>) -> Result<Kind, Memory>
         requires { 0 < length self.old }
-        ensures next { IfOk result (λ kind. self.old ≡ told_by kind hints.new.items ∷ self.new) }
-        ensures lawful { IfOk result (λ kind. IsLawfulBy kind) }
+        ensures next { IfOk result (λ kind. self.old ≡ told_by kind lits.new.items hints.new.items ∷ self.new) }
+        ensures lawful { IfOk result (λ kind. IsLawfulBy kind lits.new.items) }
         ensures err { OnErr result (self.new ≡ self.old) }
     {
         // For the proof: the caller knows that an entry is left, so one can be taken off below.
@@ -114,14 +132,12 @@ impl<'a> Reader<'a> {
             let number = (half % 4294967296) as u32;
             return Ok(Kind::Drop { number });
         }
+        let others = put_first(self.clauses, lits)?;
         let rest = take_numbers(head.rest, half as usize, hints)?;
-        let first = first_of(self.clauses);
         self.left -= 1;
-        self.clauses = first.others;
+        self.clauses = others;
         self.steps = rest;
-        Ok(Kind::Learn {
-            clause: first.clause,
-        })
+        Ok(Kind::Learn)
     }
 
     /// Takes the next entry out.
@@ -145,7 +161,7 @@ impl<'a> Reader<'a> {
         self.clauses = first.others;
         self.steps = after_numbers(head.rest, half as usize);
         Some(Step::Learn {
-            clause: Numbers::codes(first.clause),
+            clause: first.clause,
             hints: Numbers::of(head.rest, half as usize),
         })
     }

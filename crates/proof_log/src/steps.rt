@@ -3,6 +3,7 @@ ghost use Rattle.std.specs.Prelude.{◌≡◌, ◌++◌, ◌∷◌, [], ◌*◌,
 ghost use Rattle.clause_base.specs.declared.log.Entry.TheVariants.{Drop};
 ghost use Rattle.proof_log.specs.own.Held.{hint_bytes, log_bytes, AreFew, AreSmall};
 
+use crate::literals::Literals;
 use crate::number::put_number;
 use crate::numbers::put_numbers;
 use clause_base::literal::Lit;
@@ -61,7 +62,7 @@ fn add_hints(steps: &mut Vec<u8>, hints: &[u32]) -> Result<(), Memory>
 /// Adds an entry that learns a clause, whose literals stay in the memory that they are in: the clause to those that are learned, and
 /// the bytes of the hints. After want of memory both are unchanged.
 pub fn add_learned(
-    learned: &mut Vec<SharedListOf<Lit>>,
+    learned: &mut Vec<Literals>,
     steps: &mut Vec<u8>,
     clause: &SharedListOf<Lit>,
     hints: &[u32],
@@ -75,7 +76,7 @@ pub fn add_learned(
     let clause = clause.copy()?;
     learned.reserve(1)?;
     add_hints(steps, hints)?;
-    learned.push_reserved(clause);
+    learned.push_reserved(Literals::shared(clause));
     Ok(())
 }
 

@@ -189,3 +189,8 @@ two_by_here on xs i x h e n f =
     filter_length : (i : ℕ) → i < length xs
         → length (filter (is_free on) (take (i + 1) xs)) ≡ length (filter (is_free on) (take i xs)) + bit (is_free on (get_or xs i 0))
     filter_length i h = length-filter_more (is_free on) xs i 0 h
+
+-- the first of two tests that both pass
+pub first_true : (a b : Bool) → (a && b) ≡ true → a ≡ true
+first_true true b e = refl
+first_true false b e = e

@@ -3,7 +3,7 @@ use Rattle.std.proofs.Common.{arith, ◌≡◌, ◌≢◌, ◌==◌, ℕ, zero, 
 use Rattle.std.proofs.Common.{leb, ltb, Bool, true, false, not, ◌||◌, All, None, refl, sym, ap, ◌∙◌, subst, ◌⊎◌, inl, inr, length-set}
 use Rattle.std.proofs.Common.{get_or-set_same, get_or-set_other}
 use Rattle.std.proofs.lemmas.Bool.Decides.{nat_tests}
-use Rattle.std.proofs.lemmas.List.{map-append, length_push, get_or_push, get_or_append_left, get_or-replicate}
+use Rattle.std.proofs.lemmas.List.{map-append, length_push, get_or_push, get_or_append_left, get_or-replicate, length-replicate}
 use Rattle.std.proofs.lemmas.List.Elements.{All-get_or}
 use Rattle.std.proofs.lemmas.Grind.{replicate_next}
 use Rattle.clause_base.specs.Clause.{IsClause, HasVariablesBelow, has_literal}
@@ -16,6 +16,7 @@ use Rattle.cdcl_tables.specs.Pairs.{IsIndex}
 use Rattle.cdcl_tables.specs.Linked.{IsLinked}
 use Rattle.propagation.specs.declared.given.Given.{Given}
 use Rattle.propagation.specs.declared.pending.Pending.{Pending}
+use Rattle.cdcl_tables.specs.Stored.{StoreView, CanReadAll}
 use Rattle.propagation.specs.declared.tables.Tables.{Tables}
 use Rattle.propagation.specs.declared.visit.WatchState.{WatchState}
 use Rattle.propagation.specs.own.Asks.{IsAsk, IsPut}
@@ -250,24 +251,27 @@ take_none : (n l : ℕ) → has_literal (take n []) l ≡ false
 take_none zero l = refl
 take_none (suc n) l = refl
 
-pub sound_given : (v : ℕ) (t : Tables) (g : Given) (trail : List ℕ) (quiet : List Bool) → v ≤ 2147483647 → length t.store ≤ 1073741824
-    → IsFit t.store (2 * v) → t.kept.items ≡ replicate (length t.store) true → t.kept_below ≡ length t.store → t.slots.items ≡ g.slots.items → trail ≡ []
-    → AreGiven (2 * v) t.store (length t.store) g → length quiet ≡ v + 1 → AreStepped t.store t.slots.items t.steps → AreSound v t g.lists trail quiet
-sound_given v t g trail quiet small few fit ek eb es et i size steps = record {
+pub sound_given : (v : ℕ) (t : Tables) (g : Given) (trail : List ℕ) (quiet : List Bool) → v ≤ 2147483647 → length t.store.clauses ≤ 1073741824
+    → IsFit t.store.clauses (2 * v) → t.kept.items ≡ replicate (length t.store.clauses) true → t.kept_below ≡ length t.store.clauses → t.slots.items ≡ g.slots.items → trail ≡ []
+    → AreGiven (2 * v) t.store.clauses (length t.store.clauses) g → length quiet ≡ v + 1 → AreStepped t.store.clauses t.slots.items t.steps
+    → CanReadAll t.store → length t.store.packed ≡ length t.store.clauses → AreSound v t g.lists trail quiet
+sound_given v t g trail quiet small few fit ek eb es et i size steps read packed = record {
   small = small;
   tables = record {
     limit = omega (arith, small);
     fit = fit;
     small = omega (arith, few);
-    kept = ap (λ (ks : List Bool). length ks) ek ∙ long_flags (length t.store);
-    whole = rw (ek, eb) (λ k h. get_or-replicate (length t.store) k true false h);
+    kept = ap (λ (ks : List Bool). length ks) ek ∙ long_flags (length t.store.clauses);
+    read = λ n on. read n;
+    packed = packed;
+    whole = rw (ek, eb) (λ k h. get_or-replicate (length t.store.clauses) k true false h);
     slotted = rw es i.slotted;
     few = rw es (omega (arith, i.few, few));
     steps = steps;
   };
   few = omega (arith, few);
   slots_few = rw es i.few;
-  rest = rw (es, ek, flags_all (length t.store) g.slots.items i.slotted) i.rest;
+  rest = rw (es, ek, flags_all (length t.store.clauses) g.slots.items i.slotted) i.rest;
   free = rw et (λ n h node real must none two. ap (λ (b : Bool). not b) (take_none n _));
   consistent = consistent_none trail et;
   asks = rw et (record {
@@ -279,10 +283,10 @@ sound_given v t g trail quiet small few fit ek eb es et i size steps = record {
   complete = rw (et, ek) (λ k p.
       i.shorts k (omega (
         arith,
-        kept_in (replicate (length t.store) true) k (is_pending (has_literal []) (clause_at t.store k)) p,
+        kept_in (replicate (length t.store.clauses) true) k (is_pending (has_literal []) (clause_at t.store.clauses k)) p,
         long_flags
-            (length t.store),
-      )) (pending_is_short (clause_at t.store k) (pending_kept t.store (replicate (length t.store) true) [] k p)));
+            (length t.store.clauses),
+      )) (pending_is_short (clause_at t.store.clauses k) (pending_kept t.store.clauses (replicate (length t.store.clauses) true) [] k p)));
   quiet_size = size;
   quiets = rw et (λ n h. absurd (omega (arith, h)));
 }
@@ -349,3 +353,16 @@ fit_store n v store clauses e s small lawful below = rw (e, s) (fit_given v clau
 pub empty_over : (t : TrailView) (n v : ℕ) → (let w : TrailView = record { variables = n; entries = [] } in t ≡ w) → n ≡ v
     → (let w : TrailView = record { variables = v; entries = [] } in t ≡ w)
 empty_over t n v e h = e ∙ ap (λ (k : ℕ). let w : TrailView = record { variables = k; entries = [] } in w) h
+
+-- none is packed
+none_packed : (k n : ℕ) → get_or (replicate k false) n false ≡ false
+none_packed zero n = refl
+none_packed (suc k) zero = refl
+none_packed (suc k) (suc n) = none_packed k n
+
+-- so the literals of each clause of a new store can be read
+pub read_new : (store : StoreView) (cl : List (List ℕ)) → store ≡ record { clauses = cl; packed = replicate (length cl) false } → CanReadAll store
+read_new store cl e n = ap (λ (s : StoreView). get_or s.packed n false) e ∙ none_packed (length cl) n
+
+pub packed_new : (store : StoreView) (cl : List (List ℕ)) → store ≡ record { clauses = cl; packed = replicate (length cl) false } → length store.packed ≡ length store.clauses
+packed_new store cl e = ap (λ (s : StoreView). length s.packed) e ∙ length-replicate (length cl) false ∙ sym (ap (λ (s : StoreView). length s.clauses) e)

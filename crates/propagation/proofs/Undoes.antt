@@ -42,7 +42,7 @@ taken_le (Level level) entries = back_le level entries
 
 -- on a shorter trail the watches are right with no work
 pub undo_sound : (v : ℕ) (t : Tables) (l : WatchState) (trail : List ℕ) (quiet : List Bool) (m : ℕ) (trail' : List ℕ) (p : Pending)
-    → AreSound v t l trail quiet → trail' ≡ take m trail → m ≤ length trail → HasAsks t.store trail' p → IsComplete (pending_in t trail') p
+    → AreSound v t l trail quiet → trail' ≡ take m trail → m ≤ length trail → HasAsks t.store.clauses trail' p → IsComplete (pending_in t trail') p
     → AreSound v t (record l { pending = p }) trail' quiet
 undo_sound v t l trail quiet m trail' p i e h asks complete = record {
   small = i.small;
@@ -66,7 +66,7 @@ undo_sound v t l trail quiet m trail' p i e h asks complete = record {
 
 -- the set alone is another
 pub sound_set : (v : ℕ) (t : Tables) (l : WatchState) (trail : List ℕ) (quiet : List Bool) (p : Pending) → AreSound v t l trail quiet
-    → HasAsks t.store trail p → IsComplete (pending_in t trail) p → AreSound v t (record l { pending = p }) trail quiet
+    → HasAsks t.store.clauses trail p → IsComplete (pending_in t trail) p → AreSound v t (record l { pending = p }) trail quiet
 sound_set v t l trail quiet p i asks complete = undo_sound v t l trail quiet (length trail) trail p i (sym (take_all (length trail) trail (omega arith))) (omega arith) asks complete
 
 -- the assignment of the trail tells what holds of the tables
@@ -78,9 +78,9 @@ read_as v t l trail quiet n a i e f =
 
 -- of the set members go that are not pending
 pub sound_stay : (v : ℕ) (t : Tables) (l : WatchState) (trail : List ℕ) (quiet : List Bool) (n : ℕ) (a : AssignmentView) (p : Pending)
-    → AreSound v t l trail quiet → a ≡ record { variables = n; trail = trail } → HasAsks t.store a.trail p
+    → AreSound v t l trail quiet → a ≡ record { variables = n; trail = trail } → HasAsks t.store.clauses a.trail p
     → StayWhere (pending_in t a.trail) l.pending p → AreSound v t (record l { pending = p }) trail quiet
 sound_stay v t l trail quiet n a p i f asks stay =
     let e : a.trail ≡ trail = ap (λ (b : AssignmentView). b.trail) f in
-    sound_set v t l trail quiet p i (subst (λ (xs : List ℕ). HasAsks t.store xs p) e asks)
+    sound_set v t l trail quiet p i (subst (λ (xs : List ℕ). HasAsks t.store.clauses xs p) e asks)
     (stay_complete (pending_in t trail) l.pending p i.complete (subst (λ (xs : List ℕ). StayWhere (pending_in t xs) l.pending p) e stay))

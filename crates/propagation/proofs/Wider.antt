@@ -4,6 +4,7 @@ use Rattle.clause_base.specs.Literal.{opposite}
 use Rattle.clause_base.specs.Clause.{has_literal}
 use Rattle.cdcl_tables.proofs.published.Mirrors.{half_opposite}
 use Rattle.cdcl_tables.specs.Linked.{blocking_of}
+use Rattle.cdcl_tables.specs.Stored.{StoreView, CanReadKept}
 use Rattle.propagation.specs.declared.pending.Pending.{Pending}
 use Rattle.propagation.specs.declared.tables.Tables.{Tables}
 use Rattle.propagation.specs.declared.visit.WatchState.{WatchState}
@@ -54,37 +55,46 @@ sound_wider v t l l' trail quiet i w = record {
   rest = rest_wider (clauses_in t) l l' (2 * v) (flags_in t) i.rest w;
   free = λ n h node real must none two. ap (λ (x : ℕ). is_free (has_literal (take n trail)) x) (literal_wider (clauses_in t) l l' node w i.rest.many real) ∙ i.free n h node real must none two;
   consistent = i.consistent;
-  asks = asks_wider t.store trail l.pending l'.pending i.asks w.pending;
+  asks = asks_wider t.store.clauses trail l.pending l'.pending i.asks w.pending;
   complete = complete_wider (pending_in t trail) l.pending l'.pending w.pending i.complete;
   quiet_size = i.quiet_size;
   quiets = i.quiets;
 }
 
--- the tables that are read are the same
-pub sound_again : (v : ℕ) (t t' : Tables) (l : WatchState) (trail : List ℕ) (quiet : List Bool) → AreSound v t l trail quiet → AreSame t t'
-    → AreSound v t' l trail quiet
-sound_again v t t' l trail quiet i e = record {
+-- the tables that are read are the same, and the literals of kept clauses can be read
+pub sound_packed : (v : ℕ) (t t' : Tables) (l : WatchState) (trail : List ℕ) (quiet : List Bool) → AreSound v t l trail quiet → t'.store.clauses ≡ t.store.clauses
+    → t'.kept.items ≡ t.kept.items → t'.kept_below ≡ t.kept_below → t'.slots.items ≡ t.slots.items → t'.steps ≡ t.steps → CanReadKept t'.kept.items t'.store
+    → length t'.store.packed ≡ length t'.store.clauses → AreSound v t' l trail quiet
+sound_packed v t t' l trail quiet i store kept kept_below slots steps read packed = record {
   small = i.small;
   tables = record {
     limit = i.tables.limit;
-    fit = rw e.store i.tables.fit;
-    small = rw e.store i.tables.small;
-    kept = rw (e.store, e.kept) i.tables.kept;
-    whole = rw (e.kept, e.kept_below) i.tables.whole;
-    slotted = rw (e.store, e.slots) i.tables.slotted;
-    few = rw e.slots i.tables.few;
-    steps = rw (e.store, e.slots, e.steps) i.tables.steps;
+    fit = rw store i.tables.fit;
+    small = rw store i.tables.small;
+    kept = rw (store, kept) i.tables.kept;
+    whole = rw (kept, kept_below) i.tables.whole;
+    read = read;
+    packed = packed;
+    slotted = rw (store, slots) i.tables.slotted;
+    few = rw slots i.tables.few;
+    steps = rw (store, slots, steps) i.tables.steps;
   };
-  few = rw e.store i.few;
-  slots_few = rw (e.store, e.slots) i.slots_few;
-  rest = rw (e.store, e.slots, e.kept) i.rest;
-  free = rw (e.store, e.slots, e.kept) i.free;
+  few = rw store i.few;
+  slots_few = rw (store, slots) i.slots_few;
+  rest = rw (store, slots, kept) i.rest;
+  free = rw (store, slots, kept) i.free;
   consistent = i.consistent;
-  asks = rw e.store i.asks;
-  complete = rw (e.store, e.kept) i.complete;
+  asks = rw store i.asks;
+  complete = rw (store, kept) i.complete;
   quiet_size = i.quiet_size;
-  quiets = rw (e.store, e.kept) i.quiets;
+  quiets = rw (store, kept) i.quiets;
 }
+
+-- the tables that are read are the same
+pub sound_again : (v : ℕ) (t t' : Tables) (l : WatchState) (trail : List ℕ) (quiet : List Bool) → AreSound v t l trail quiet → AreSame t t'
+    → AreSound v t' l trail quiet
+sound_again v t t' l trail quiet i e = sound_packed v t t' l trail quiet i (ap (λ (s : StoreView). s.clauses) e.store) e.kept e.kept_below e.slots e.steps
+    (rw (e.store, e.kept) i.tables.read) (rw e.store i.tables.packed)
 
 -- and so where room was made
 pub sound_room : (v : ℕ) (t t' : Tables) (l l' : WatchState) (trail : List ℕ) (quiet : List Bool) → AreSound v t l trail quiet → AreSame t t'

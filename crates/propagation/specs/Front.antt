@@ -15,7 +15,7 @@ use Rattle.propagation.specs.own.Tables.{AreTables}
 pub record AreRead (t : Tables) (a : AssignmentView) (p : Pending) : Type 0 where
   pub tables : AreTables t (2 * a.variables)
   pub consistent : IsConsistent a.trail
-  pub asks : HasAsks t.store a.trail p
+  pub asks : HasAsks t.store.clauses a.trail p
 
 -- what the clause with a number asks for, where this tells the true literals
 abbrev pub asked_at : List (List ℕ) → (ℕ → Bool) → ℕ → Event

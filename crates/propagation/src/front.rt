@@ -24,10 +24,10 @@ use clause_base::literal::Lit;
 #[inline(always)]
 fn answer(tables: &Tables, assignment: &Assignment, number: u32, ask: u32) -> Option<Event>
     requires tables { AreTables tables.now (2 * assignment.now.variables) }
-    requires inside { number < length tables.now.store }
+    requires inside { number < length tables.now.store.clauses }
     requires consistent { IsConsistent assignment.now.trail }
-    requires ask { IsAsk (has_literal assignment.now.trail) (clause_at tables.now.store number) ask }
-    ensures { IsAnswer (pending_in tables.now assignment.now.trail number) (asked_at tables.now.store (has_literal assignment.now.trail) number) result }
+    requires ask { IsAsk (has_literal assignment.now.trail) (clause_at tables.now.store.clauses number) ask }
+    ensures { IsAnswer (pending_in tables.now assignment.now.trail number) (asked_at tables.now.store.clauses (has_literal assignment.now.trail) number) result }
 {
     if !tables.is_kept(number) {
         return None;
@@ -48,8 +48,8 @@ fn answer(tables: &Tables, assignment: &Assignment, number: u32, ask: u32) -> Op
 #[inline(always)]
 pub fn next(tables: &Tables, assignment: &Assignment, pending: &mut Pending) -> Option<Event>
     requires { AreRead tables.now assignment.now pending.old }
-    ensures first { IsComplete (pending_in tables.now assignment.now.trail) pending.old → result ≡ first_asked tables.now.store tables.now.kept.items (has_literal assignment.now.trail) }
-    ensures asks { HasAsks tables.now.store assignment.now.trail pending.new }
+    ensures first { IsComplete (pending_in tables.now assignment.now.trail) pending.old → result ≡ first_asked tables.now.store.clauses tables.now.kept.items (has_literal assignment.now.trail) }
+    ensures asks { HasAsks tables.now.store.clauses assignment.now.trail pending.new }
     ensures stay { StayWhere (pending_in tables.now assignment.now.trail) pending.old pending.new }
 {
     // For the proof: the numbers below it were taken, so that the loop ends.
@@ -74,11 +74,11 @@ pub fn next(tables: &Tables, assignment: &Assignment, pending: &mut Pending) -> 
 /// Puts a clause into the set with what it asks for, if it is kept and pending.
 pub fn scan_one(tables: &Tables, assignment: &Assignment, pending: &mut Pending, number: u32)
     requires tables { AreTables tables.now (2 * assignment.now.variables) }
-    requires inside { number < length tables.now.store }
-    requires asks { HasAsks tables.now.store assignment.now.trail pending.old }
+    requires inside { number < length tables.now.store.clauses }
+    requires asks { HasAsks tables.now.store.clauses assignment.now.trail pending.old }
     ensures own { pending_in tables.now assignment.now.trail number ≡ true → words_have pending.new.numbers number ≡ true }
     ensures grows { Grows (words_have pending.old.numbers) (words_have pending.new.numbers) }
-    ensures asks { HasAsks tables.now.store assignment.now.trail pending.new }
+    ensures asks { HasAsks tables.now.store.clauses assignment.now.trail pending.new }
 {
     if !tables.is_kept(number) {
         return;

@@ -6,6 +6,7 @@ ghost use Rattle.cdcl_defs.specs.State.{clause_at};
 ghost use Rattle.bit_sets.specs.Layered.{words_have};
 ghost use Rattle.cdcl_tables.specs.Linked.{IsLinked};
 ghost use Rattle.propagation.specs.own.Visit.{IsFit, AreSlotsBelow};
+ghost use Rattle.cdcl_tables.specs.Stored.{CanReadAll};
 ghost use Rattle.propagation.specs.own.Given.{AreGiven, AreOthers, AreRising, IsBeside};
 
 use crate::pending::Pending;
@@ -118,11 +119,12 @@ impl Given {
 
     /// Gives the next clause a slot, if it has more than two literals, and puts it into the set, if it has fewer than two.
     fn enter(&mut self, store: &Store, number: u32, codes: u32) -> Result<(), Memory>
-        requires fit { IsFit store.now codes }
-        requires inside { number < length store.now }
-        requires few { length store.now ≤ 1073741824 }
-        requires given { AreGiven codes store.now number self.old }
-        ensures { OnOk result (AreGiven codes store.now (number + 1) self.new) }
+        requires fit { IsFit store.now.clauses codes }
+        requires read { CanReadAll store.now }
+        requires inside { number < length store.now.clauses }
+        requires few { length store.now.clauses ≤ 1073741824 }
+        requires given { AreGiven codes store.now.clauses number self.old }
+        ensures { OnOk result (AreGiven codes store.now.clauses (number + 1) self.new) }
     {
         let slot = self.slots.len() as u32;
         let clause = store.clause(number);
@@ -148,15 +150,16 @@ impl Given {
         first: u32,
         codes: u32,
     ) -> Result<u32, Memory>
-        requires fit { IsFit store.now codes }
-        requires inside { first + others.now.count ≤ length store.now }
-        requires few { length store.now ≤ 1073741824 }
+        requires fit { IsFit store.now.clauses codes }
+        requires read { CanReadAll store.now }
+        requires inside { first + others.now.count ≤ length store.now.clauses }
+        requires few { length store.now.clauses ≤ 1073741824 }
         requires below { AreSlotsBelow others.now.count others.now.places.items }
         requires rising { AreRising others.now.places.items }
-        requires twos { (j : ℕ) → IsBeside others.now.places.items others.now.count j → length (clause_at store.now (first + j)) ≡ 2 }
-        requires given { AreGiven codes store.now first self.old }
+        requires twos { (j : ℕ) → IsBeside others.now.places.items others.now.count j → length (clause_at store.now.clauses (first + j)) ≡ 2 }
+        requires given { AreGiven codes store.now.clauses first self.old }
         ensures next { IfOk result (λ next. next ≡ first + others.now.count) }
-        ensures given { IfOk result (λ next. AreGiven codes store.now next self.new) }
+        ensures given { IfOk result (λ next. AreGiven codes store.now.clauses next self.new) }
     {
         let mut next: usize = 0;
         for index in 0..others.places.len() {
@@ -176,15 +179,16 @@ impl Given {
         first: u32,
         codes: u32,
     ) -> Result<u32, Memory>
-        requires fit { IsFit store.now codes }
-        requires inside { first + parts * others.now.count ≤ length store.now }
-        requires few { length store.now ≤ 1073741824 }
+        requires fit { IsFit store.now.clauses codes }
+        requires read { CanReadAll store.now }
+        requires inside { first + parts * others.now.count ≤ length store.now.clauses }
+        requires few { length store.now.clauses ≤ 1073741824 }
         requires below { AreSlotsBelow others.now.count others.now.places.items }
         requires rising { AreRising others.now.places.items }
-        requires twos { (t j : ℕ) → t < parts → IsBeside others.now.places.items others.now.count j → length (clause_at store.now (first + (t * others.now.count + j))) ≡ 2 }
-        requires given { AreGiven codes store.now first self.old }
+        requires twos { (t j : ℕ) → t < parts → IsBeside others.now.places.items others.now.count j → length (clause_at store.now.clauses (first + (t * others.now.count + j))) ≡ 2 }
+        requires given { AreGiven codes store.now.clauses first self.old }
         ensures next { IfOk result (λ next. next ≡ first + parts * others.now.count) }
-        ensures given { IfOk result (λ next. AreGiven codes store.now next self.new) }
+        ensures given { IfOk result (λ next. AreGiven codes store.now.clauses next self.new) }
     {
         let mut next = first;
         for _ in 0..parts {
@@ -202,10 +206,11 @@ impl Given {
         formula: &Formula,
         codes: u32,
     ) -> Result<Given, Memory>
-        requires same { store.now ≡ formula.now.clauses }
-        requires fit { IsFit store.now codes }
+        requires same { store.now.clauses ≡ formula.now.clauses }
+        requires fit { IsFit store.now.clauses codes }
+        requires read { CanReadAll store.now }
         requires codes { codes ≤ 4294967294 }
-        ensures { IfOk result (λ g. AreGiven codes store.now (length store.now) g) }
+        ensures { IfOk result (λ g. AreGiven codes store.now.clauses (length store.now.clauses) g) }
     {
         let parts = formula.parts();
         let steps = parts.repeated.horizon();

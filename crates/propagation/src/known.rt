@@ -50,9 +50,9 @@ pub fn list_from(
     requires read { AreRead tables.now assignment.now pending.old }
     requires place { place ≤ 4 }
     ensures listed { (k : ℕ) → pending_in tables.now assignment.now.trail k ≡ true → words_have pending.old.numbers k ≡ true → k < result.from → IsListed result.numbers place k }
-    ensures below { result.from ≤ length tables.now.store }
+    ensures below { result.from ≤ length tables.now.store.clauses }
     ensures long { length result.numbers ≡ 4 }
-    ensures asks { HasAsks tables.now.store assignment.now.trail pending.new }
+    ensures asks { HasAsks tables.now.store.clauses assignment.now.trail pending.new }
     ensures stay { StayWhere (pending_in tables.now assignment.now.trail) pending.old pending.new }
 {
     next(tables, assignment, pending);
@@ -75,9 +75,9 @@ pub fn list_from(
 /// Puts the listed clauses into a set that are kept and pending.
 pub fn scan_listed(tables: &Tables, assignment: &Assignment, pending: &mut Pending, listed: &[u32])
     requires tables { AreTables tables.now (2 * assignment.now.variables) }
-    requires asks { HasAsks tables.now.store assignment.now.trail pending.old }
+    requires asks { HasAsks tables.now.store.clauses assignment.now.trail pending.old }
     ensures own { (p : ℕ) → p < length listed.now → pending_in tables.now assignment.now.trail (slice_index listed.now p) ≡ true → words_have pending.new.numbers (slice_index listed.now p) ≡ true }
-    ensures asks { HasAsks tables.now.store assignment.now.trail pending.new }
+    ensures asks { HasAsks tables.now.store.clauses assignment.now.trail pending.new }
 {
     for &number in listed {
         if (number as usize) < tables.kept.len() {

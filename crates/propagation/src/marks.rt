@@ -22,13 +22,13 @@ use clause_base::pair::Pair;
 /// Puts the clause of a pair of a false literal into the set, if its other literal is not true.
 #[inline(always)]
 fn mark(store: &Store, pair: Pair, assignment: &Assignment, falsified: u32, pending: &mut Pending)
-    requires fit { IsFit store.now (2 * assignment.now.variables) }
+    requires fit { IsFit store.now.clauses (2 * assignment.now.variables) }
     requires falsified { has_literal assignment.now.trail (opposite falsified) ≡ true }
-    requires exact { IsPairOf store.now falsified pair }
-    requires asks { HasAsks store.now assignment.now.trail pending.old }
+    requires exact { IsPairOf store.now.clauses falsified pair }
+    requires asks { HasAsks store.now.clauses assignment.now.trail pending.old }
     ensures in_set { has_literal assignment.now.trail pair.other ≡ false → words_have pending.new.numbers pair.number ≡ true }
     ensures grows { Grows (words_have pending.old.numbers) (words_have pending.new.numbers) }
-    ensures asks { HasAsks store.now assignment.now.trail pending.new }
+    ensures asks { HasAsks store.now.clauses assignment.now.trail pending.new }
 {
     if assignment.is_true(pair.other) {
         return;
@@ -45,13 +45,13 @@ fn mark_all(
     falsified: u32,
     pending: &mut Pending,
 )
-    requires fit { IsFit store.now (2 * assignment.now.variables) }
+    requires fit { IsFit store.now.clauses (2 * assignment.now.variables) }
     requires falsified { has_literal assignment.now.trail (opposite falsified) ≡ true }
-    requires exact { ArePairsOf store.now falsified pairs.now }
-    requires asks { HasAsks store.now assignment.now.trail pending.old }
+    requires exact { ArePairsOf store.now.clauses falsified pairs.now }
+    requires asks { HasAsks store.now.clauses assignment.now.trail pending.old }
     ensures in_set { AreMarked assignment.now.trail pairs.now pending.new }
     ensures grows { Grows (words_have pending.old.numbers) (words_have pending.new.numbers) }
-    ensures asks { HasAsks store.now assignment.now.trail pending.new }
+    ensures asks { HasAsks store.now.clauses assignment.now.trail pending.new }
 {
     for place in 0..pairs.len() {
         mark(store, pairs.at(place), assignment, falsified, pending);
@@ -67,13 +67,13 @@ fn mark_list(
     falsified: u32,
     pending: &mut Pending,
 )
-    requires fit { IsFit store.now (2 * assignment.now.variables) }
+    requires fit { IsFit store.now.clauses (2 * assignment.now.variables) }
     requires falsified { has_literal assignment.now.trail (opposite falsified) ≡ true }
-    requires exact { ArePairsOf store.now falsified (unwrap_or pairs []) }
-    requires asks { HasAsks store.now assignment.now.trail pending.old }
+    requires exact { ArePairsOf store.now.clauses falsified (unwrap_or pairs []) }
+    requires asks { HasAsks store.now.clauses assignment.now.trail pending.old }
     ensures in_set { AreMarked assignment.now.trail (unwrap_or pairs.entry []) pending.new }
     ensures grows { Grows (words_have pending.old.numbers) (words_have pending.new.numbers) }
-    ensures asks { HasAsks store.now assignment.now.trail pending.new }
+    ensures asks { HasAsks store.now.clauses assignment.now.trail pending.new }
 {
     if let Some(pairs) = pairs {
         mark_all(store, &pairs, assignment, falsified, pending);
@@ -92,14 +92,14 @@ fn mark_fact(
     falsified: u32,
     pending: &mut Pending,
 )
-    requires fit { IsFit store.now (2 * assignment.now.variables) }
+    requires fit { IsFit store.now.clauses (2 * assignment.now.variables) }
     requires falsified { has_literal assignment.now.trail (opposite falsified) ≡ true }
     requires origin { lists.now.origin ≡ Time time fact }
-    requires listed { AreAllPairsOf store.now falsified lists.now }
-    requires asks { HasAsks store.now assignment.now.trail pending.old }
+    requires listed { AreAllPairsOf store.now.clauses falsified lists.now }
+    requires asks { HasAsks store.now.clauses assignment.now.trail pending.old }
     ensures in_set { AreAllMarked assignment.now.trail lists.now pending.new }
     ensures grows { Grows (words_have pending.old.numbers) (words_have pending.new.numbers) }
-    ensures asks { HasAsks store.now assignment.now.trail pending.new }
+    ensures asks { HasAsks store.now.clauses assignment.now.trail pending.new }
 {
     let ending = lists.last(time, fact);
     mark_list(store, ending, assignment, falsified, pending);
@@ -119,13 +119,13 @@ fn mark_repeated(
     falsified: u32,
     pending: &mut Pending,
 )
-    requires fit { IsFit store.now (2 * assignment.now.variables) }
+    requires fit { IsFit store.now.clauses (2 * assignment.now.variables) }
     requires falsified { has_literal assignment.now.trail (opposite falsified) ≡ true }
-    requires listed { AreAllPairsOf store.now falsified lists.now }
-    requires asks { HasAsks store.now assignment.now.trail pending.old }
+    requires listed { AreAllPairsOf store.now.clauses falsified lists.now }
+    requires asks { HasAsks store.now.clauses assignment.now.trail pending.old }
     ensures in_set { AreAllMarked assignment.now.trail lists.now pending.new }
     ensures grows { Grows (words_have pending.old.numbers) (words_have pending.new.numbers) }
-    ensures asks { HasAsks store.now assignment.now.trail pending.new }
+    ensures asks { HasAsks store.now.clauses assignment.now.trail pending.new }
 {
     match lists.origin() {
         Origin::Step(step, code) => mark_list(
@@ -151,14 +151,14 @@ pub fn mark_pairs(
     falsified: u32,
     pending: &mut Pending,
 )
-    requires fit { IsFit store.now (2 * assignment.now.variables) }
+    requires fit { IsFit store.now.clauses (2 * assignment.now.variables) }
     requires falsified { has_literal assignment.now.trail (opposite falsified) ≡ true }
     requires inside { falsified < length index.now }
-    requires exact { ArePairsOf store.now falsified (pairs_of index.now falsified) }
-    requires asks { HasAsks store.now assignment.now.trail pending.old }
+    requires exact { ArePairsOf store.now.clauses falsified (pairs_of index.now falsified) }
+    requires asks { HasAsks store.now.clauses assignment.now.trail pending.old }
     ensures in_set { AreMarked assignment.now.trail (pairs_of index.now falsified) pending.new }
     ensures grows { Grows (words_have pending.old.numbers) (words_have pending.new.numbers) }
-    ensures asks { HasAsks store.now assignment.now.trail pending.new }
+    ensures asks { HasAsks store.now.clauses assignment.now.trail pending.new }
 {
     let lists = index.lists(falsified);
     mark_list(store, lists.told(), assignment, falsified, pending);

@@ -6,6 +6,7 @@ ghost use Rattle.cdcl_defs.specs.State.{value_of, clause_at};
 ghost use Rattle.cdcl_defs.specs.Pending.{is_pending_in, open_ones};
 ghost use Rattle.cdcl_defs.specs.Learn.{backtracked};
 ghost use Rattle.cdcl_tables.specs.Assignment.{literals};
+ghost use Rattle.cdcl_tables.specs.Stored.{CanReadKept};
 ghost use Rattle.propagation.specs.own.Back.{taken_back};
 ghost use Rattle.propagation.specs.Front.{first_asked};
 ghost use Rattle.propagation.specs.Known.{AreListed};
@@ -38,6 +39,7 @@ use clause_base::formula::Formula;
 use clause_base::literal::Lit;
 use containers::memory::Memory;
 use containers::{SharedListOf, let_go};
+use proof_log::literals::Literals;
 use std::alloc::Global;
 use std::marker::Model;
 
@@ -65,9 +67,9 @@ impl Model for Propagator {
 
     ghost Value = { PropagatorView };
 
-    ghost view = { λ p. record { variables = p.variables; clauses = p.tables.store; kept = p.tables.kept.items; entries = p.trail.entries } };
+    ghost view = { λ p. record { variables = p.variables; clauses = p.tables.store.clauses; kept = p.tables.kept.items; entries = p.trail.entries } };
 
-    ghost invariant = { λ p. AreSound p.variables p.tables p.lists (literals p.trail.entries) p.quiet.items × IsPaired p.variables p.tables.store p.tables.slots.items p.pairs × (p.trail.variables ≡ p.variables) };
+    ghost invariant = { λ p. AreSound p.variables p.tables p.lists (literals p.trail.entries) p.quiet.items × IsPaired p.variables p.tables.store.clauses p.tables.slots.items p.pairs × (p.trail.variables ≡ p.variables) };
 }
 
 /// All parts are let go in one call, so that a proof has one step for it and not one for each part.
@@ -148,9 +150,10 @@ impl Propagator {
         &self.trail
     }
 
-    /// The clauses by number; one that is kept no more still stands there.
+    /// The clauses by number; one that is kept no more still stands there, and may be packed.
     pub fn store(&self) -> &Store
-        ensures { result.now ≡ self.now.clauses }
+        ensures clauses { result.now.clauses ≡ self.now.clauses }
+        ensures read { CanReadKept self.now.kept result.now }
     {
         &self.tables.store
     }
@@ -299,5 +302,15 @@ impl Propagator {
     {
         self.tables.kept[number as usize] = false;
         self.tables.kept_below = self.tables.kept_below.min(number);
+    }
+
+    /// Keeps the literals of a clause that is kept no more as these, which are the same ones: so they take less room. It takes no memory.
+    pub fn pack(&mut self, number: u32, literals: Literals)
+        requires inside { number < length self.old.clauses }
+        requires gone { slice_index_or self.old.kept number false ≡ false }
+        requires same { clause_at self.old.clauses number ≡ literals }
+        ensures { self.new ≡ self.old }
+    {
+        self.tables.store.pack(number, literals);
     }
 }

@@ -1,6 +1,7 @@
 //! The slots of clauses that are watched: each has the number of one.
-ghost use Rattle.std.specs.Prelude.{◌≡◌, ◌<◌, length, false, slice_index_or};
+ghost use Rattle.std.specs.Prelude.{◌≡◌, ◌<◌, length, true, false, slice_index_or};
 ghost use Rattle.cdcl_defs.specs.State.{clause_at};
+ghost use Rattle.cdcl_tables.specs.Stored.{CanReadKept};
 ghost use Rattle.propagation.specs.own.Steps.{AreStepped};
 ghost use Rattle.propagation.specs.own.Visit.{AreSlotsBelow};
 ghost use Rattle.propagation.specs.own.Tables.{AreKeptBelow, clauses_in, flags_in};
@@ -8,12 +9,14 @@ ghost use Rattle.propagation.specs.own.Tables.{AreKeptBelow, clauses_in, flags_i
 use crate::tables::Tables;
 use clause_base::view::View;
 
-/// The literals of the clause of a slot.
+/// The literals of the clause of a slot, which is kept.
 #[inline(always)]
 pub fn slot_clause(tables: &Tables, slot: u32) -> View<'_>
     requires inside { slot < length tables.now.slots.items }
-    requires below { AreSlotsBelow (length tables.now.store) tables.now.slots.items }
-    requires steps { AreStepped tables.now.store tables.now.slots.items tables.now.steps }
+    requires below { AreSlotsBelow (length tables.now.store.clauses) tables.now.slots.items }
+    requires kept { slice_index_or (flags_in tables.now) slot false ≡ true }
+    requires read { CanReadKept tables.now.kept.items tables.now.store }
+    requires steps { AreStepped tables.now.store.clauses tables.now.slots.items tables.now.steps }
     ensures { result ≡ clause_at (clauses_in tables.now) slot }
 {
     let number = tables.number_at(slot);

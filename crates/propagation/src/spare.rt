@@ -1,5 +1,6 @@
 //! Tables of clauses that are done with: those of the next formula's clauses are made in their memory.
 ghost use Rattle.std.specs.Prelude.{◌≡◌, ◌+◌, ◌*◌, length, replicate, true, IfOk};
+ghost use Rattle.cdcl_tables.specs.Stored.{CanReadAll};
 ghost use Rattle.propagation.specs.own.Given.{AreGiven};
 
 use crate::given::Given;
@@ -35,10 +36,11 @@ impl OldTables {
         store: &Store,
         formula: &Formula,
     ) -> Result<OldTables, Memory>
-        requires { store.now ≡ formula.now.clauses }
+        requires same { store.now.clauses ≡ formula.now.clauses }
+        requires read { CanReadAll store.now }
         ensures kept { IfOk result (λ s. s.kept.items ≡ replicate (length formula.now.clauses) true) }
         ensures quiet { IfOk result (λ s. length s.quiet.items ≡ formula.now.variables + 1) }
-        ensures given { IfOk result (λ s. AreGiven (2 * formula.now.variables) store.now (length store.now) s.given) }
+        ensures given { IfOk result (λ s. AreGiven (2 * formula.now.variables) store.now.clauses (length store.now.clauses) s.given) }
     {
         let OldTables {
             mut kept,

@@ -45,12 +45,12 @@ pub fn refresh(
     from: u32,
 )
     requires tables { AreTables tables.now (2 * assignment.now.variables) }
-    requires room { length tables.now.store ≤ 64 * length pending.old.numbers }
-    requires long { length tables.now.store ≤ length pending.old.asks.items }
+    requires room { length tables.now.store.clauses ≤ 64 * length pending.old.numbers }
+    requires long { length tables.now.store.clauses ≤ length pending.old.asks.items }
     requires flags { length assignment.now.trail < length quiet.now.items }
     requires quiet { slice_index_or quiet.now.items (length assignment.now.trail) false ≡ true → (k : ℕ) → pending_in tables.now assignment.now.trail k ≡ false }
     requires listed { AreListed (pending_in tables.now assignment.now.trail) listed.now from }
-    ensures asks { HasAsks tables.now.store assignment.now.trail pending.new }
+    ensures asks { HasAsks tables.now.store.clauses assignment.now.trail pending.new }
     ensures complete { IsComplete (pending_in tables.now assignment.now.trail) pending.new }
 {
     let is_quiet = quiet[assignment.length() as usize];

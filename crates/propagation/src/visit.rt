@@ -54,12 +54,12 @@ impl WatchState {
         requires code { code < 2 * assignment.now.variables }
         requires falsified { has_literal assignment.now.trail (opposite code) ≡ true }
         requires tables { AreTables tables.now (2 * assignment.now.variables) }
-        requires asks { HasAsks tables.now.store assignment.now.trail self.old.pending }
+        requires asks { HasAsks tables.now.store.clauses assignment.now.trail self.old.pending }
         requires visited { (rest : List ℕ) × AreVisited tables.now self.old assignment.now.trail (2 * assignment.now.variables) code (place.node ∷ rest) place }
         ensures visited { GoesOn tables.now self.old self.new assignment.now.trail (2 * assignment.now.variables) code place result }
         ensures moves { MovesToFree (clauses_in tables.now) self.old.chains.nodes.items self.new.chains.nodes.items (has_literal assignment.now.trail) }
         ensures grows { Grows (words_have self.old.pending.numbers) (words_have self.new.pending.numbers) }
-        ensures asks { HasAsks tables.now.store assignment.now.trail self.new.pending }
+        ensures asks { HasAsks tables.now.store.clauses assignment.now.trail self.new.pending }
     {
         let beside = self.chains.blocking(place.node);
         if assignment.is_true(beside) {
@@ -91,13 +91,13 @@ impl WatchState {
         requires code { code < 2 * assignment.now.variables }
         requires falsified { has_literal assignment.now.trail (opposite code) ≡ true }
         requires tables { AreTables tables.now (2 * assignment.now.variables) }
-        requires asks { HasAsks tables.now.store assignment.now.trail self.old.pending }
+        requires asks { HasAsks tables.now.store.clauses assignment.now.trail self.old.pending }
         requires rest { IsAtRest (clauses_in tables.now) self.old.resume_at.items self.old.chains.heads.items self.old.chains.nodes.items (2 * assignment.now.variables) (flags_in tables.now) }
         ensures rest { IsAtRest (clauses_in tables.now) self.new.resume_at.items self.new.chains.heads.items self.new.chains.nodes.items (2 * assignment.now.variables) (flags_in tables.now) }
         ensures settled { AreSettled tables.now self.new assignment.now.trail code }
         ensures moves { MovesToFree (clauses_in tables.now) self.old.chains.nodes.items self.new.chains.nodes.items (has_literal assignment.now.trail) }
         ensures grows { Grows (words_have self.old.pending.numbers) (words_have self.new.pending.numbers) }
-        ensures asks { HasAsks tables.now.store assignment.now.trail self.new.pending }
+        ensures asks { HasAsks tables.now.store.clauses assignment.now.trail self.new.pending }
     {
         let mut place = self.chains.first(code);
         'visits: while place.node != END {

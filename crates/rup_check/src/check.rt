@@ -76,17 +76,19 @@ fn go_through(alloc: Global, formula: &Formula, log: &Log) -> Result<(), CheckEr
     ensures not_empty { result ≡ Err CheckError.NotEmpty → IsDerivation formula.now.variables formula.now.clauses log.now × (EndsEmpty log.now → ⊥) }
 {
     let mut checker = Checker::new(alloc, formula)?;
+    let mut lits = Vec::new(alloc);
     let mut hints = Vec::new(alloc);
     let mut reader = log.entries();
     let mut ends_empty = false;
     for number in 0..log.len() {
-        let kind = reader.take_into(&mut hints)?;
-        if !take_step(&mut checker, kind, &hints)? {
+        let kind = reader.take_into(&mut lits, &mut hints)?;
+        let clause = lits.as_slice();
+        if !take_step(&mut checker, kind, clause, &hints)? {
             return Err(CheckError::Rejected {
                 entry: number as u32,
             });
         }
-        ends_empty = learns_empty(kind);
+        ends_empty = learns_empty(kind, clause);
     }
     if ends_empty {
         Ok(())

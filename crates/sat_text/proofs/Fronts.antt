@@ -1,5 +1,5 @@
 -- The word at the front of a text, met byte by byte.
-use Rattle.std.proofs.Common.{◌≡◌, ◌∙◌, ◌+◌, ℕ, List, [], ◌∷◌, ◌++◌, length, take, drop, refl, sym, ap, arith}
+use Rattle.std.proofs.Common.{◌≡◌, ◌∙◌, ℕ, List, [], ◌∷◌, ◌++◌, length, take, drop, refl, sym, ap, arith}
 use Rattle.sat_text.specs.Words.{words_of}
 use Rattle.sat_text.specs.own.Cut.{after_blanks, word_front, after_word}
 use Rattle.sat_text.proofs.WordsLaws.{words_at, words_none, front_no_blank}

@@ -1,13 +1,13 @@
 -- What is told after a number more, and after the words of a line.
-use Rattle.std.proofs.Common.{◌≡◌, ◌==◌, ◌&&◌, ◌<◌, ◌≤◌, not, ℕ, List, [], ◌∷◌, ◌++◌, length, drop, Bool, true, false, Option, Some, None, option_map, refl, sym, ap, subst, ◌∙◌, arith, inl, inr}
+use Rattle.std.proofs.Common.{◌≡◌, ◌==◌, ◌&&◌, not, ℕ, List, [], ◌∷◌, ◌++◌, length, drop, Bool, true, false, Option, Some, None, option_map, refl, sym, ap, subst, ◌∙◌, arith, inl, inr}
 use Rattle.std.specs.Prelude.{nat_le, codes, option_and_then}
 use Rattle.std.specs.Str.{bytes_eq}
 use Rattle.std.proofs.lemmas.Bool.{eq-eqb, eqb-true}
 use Rattle.std.proofs.lemmas.Bool.Decides.{eqb_tells}
 use Rattle.sat_text.specs.declared.words.Signed.{Signed}
-use Rattle.sat_text.specs.Words.{words_of, number_of, first_number}
-use Rattle.sat_text.specs.Values.{Told, tells, numbers_of, numbers_told, is_satisfiable, with_number, with_numbers, with_line}
-use Rattle.sat_text.specs.Stands.{Table, Holds, ReaderView, HasTold, Goes}
+use Rattle.sat_text.specs.Words.{first_number}
+use Rattle.sat_text.specs.Values.{Told, tells, numbers_of, numbers_told, is_satisfiable, with_number, with_numbers}
+use Rattle.sat_text.specs.Stands.{Holds, ReaderView, HasTold, Goes}
 
 -- what is told after words that are numbers
 abbrev pub from_words : ℕ → Told → List (List ℕ) → Option Told

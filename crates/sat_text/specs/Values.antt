@@ -1,10 +1,12 @@
 -- The text of a model: what a SAT solver prints of one.
-use Rattle.std.specs.Prelude.{ℕ, ◌+◌, ◌==◌, ◌&&◌, not, Bool, true, false, List, [], ◌∷◌, ◌++◌, map, length, nat_le, codes, Option, Some, None, option_map, option_and_then, if◌then◌else◌}
+use Rattle.std.specs.Prelude.{ℕ, ◌+◌, ◌==◌, ◌&&◌, not, Bool, true, false, List, [], ◌∷◌, ◌++◌, map, length, nat_le, nat_lt, codes, Option, Some, None, option_map, option_and_then, if◌then◌else◌}
 use Rattle.std.specs.List.{list_any, range_with_len}
 use Rattle.std.specs.Str.{bytes_eq}
 use Rattle.sat_text.specs.declared.words.Signed.{Signed}
 use Rattle.sat_text.specs.Words.{words_of, number_of}
 use Rattle.sat_text.specs.Lines.{whole_lines, last_part, counted}
+use Rattle.sat_text.specs.declared.value_reader.Refused.{Refused}
+use Rattle.sat_text.specs.declared.value_reader.Refused.TheVariants as refused
 
 -- the numbers that words are, in their order; none where one is no number
 abbrev pub numbers_of : List (List ℕ) → Option (List Signed)
@@ -53,23 +55,43 @@ with_numbers variables told (n ∷ ns) = option_and_then (λ next. with_numbers 
 abbrev pub with_line : ℕ → Told → List ℕ → Option Told
 with_line variables told line = option_and_then (with_numbers variables told) (numbers_told (words_of line))
 
--- what lines come to: one of them, which begins at an offset, is no line of a model, or this was told
-pub data Outcome : Type 0 where
-  Stops : ℕ → Outcome
-  Tells : Told → Outcome
+-- how many bytes a line may have, without its LF
+abbrev pub most_values_line : ℕ
+most_values_line = 268435456
 
--- the same of lines of which the first begins at an offset, after which nothing, or something, was told
-abbrev pub after_lines : ℕ → Told → ℕ → List (List ℕ) → Outcome
-after_lines variables told at [] = Tells told
-after_lines variables told at (line ∷ lines) = elim (with_line variables told line) [
-  | None ↦ Stops at
-  | Some next ↦ after_lines variables next (at + length line + 1) lines
-]
-
--- a text is none of a model, which its line at an offset tells, or its end; or these are the values of the variables
+-- a text is none of a model, which its line at an offset tells, or its end; or a line, counted from 1, is too long; or these are the
+-- values of the variables
 pub data Reading : Type 0 where
   NoText : ℕ → Reading
+  LongLine : ℕ → Reading
   Values : List Bool → Reading
+
+-- what a refusal tells of a text
+abbrev pub refused_by : Refused → Reading
+refused_by (refused.NoText at) = NoText at
+refused_by (refused.LongLine line) = LongLine line
+
+-- what a line comes to, or several: the text is refused, whatever follows; or this was told
+pub data Outcome : Type 0 where
+  Stops : Refused → Outcome
+  Tells : Told → Outcome
+
+-- what a line that begins at an offset comes to, after which this is told, where it is one that may come here
+abbrev pub outcome_told : ℕ → Option Told → Outcome
+outcome_told at None = Stops (refused.NoText (counted at))
+outcome_told at (Some told) = Tells told
+
+-- what the bytes of a line come to, where this was told, the line begins at an offset, and so many stand before it
+unfoldable pub outcome_of : ℕ → Told → (at count : ℕ) → List ℕ → Outcome
+outcome_of variables told at count line = if nat_lt most_values_line (length line) then Stops (refused.LongLine (counted (count + 1))) else outcome_told at (with_line variables told line)
+
+-- the same of lines of which the first begins at an offset
+abbrev pub after_lines : ℕ → Told → (at count : ℕ) → List (List ℕ) → Outcome
+after_lines variables told at count [] = Tells told
+after_lines variables told at count (line ∷ lines) = elim (outcome_of variables told at count line) [
+  | Stops refusal ↦ Stops refusal
+  | Tells next ↦ after_lines variables next (at + length line + 1) (count + 1) lines
+]
 
 -- the values that literals tell of so many variables: a variable is true where its literal was told without a minus, and else false
 abbrev pub values_told : ℕ → List Signed → List Bool
@@ -77,9 +99,9 @@ values_told variables literals = map (λ v. tells literals (v + 1) false) (range
 
 -- what a text of so many bytes is, by what its lines come to: the values have to have an end
 abbrev pub reading_of : ℕ → ℕ → Outcome → Reading
-reading_of variables long (Stops at) = NoText (counted at)
+reading_of variables long (Stops refusal) = refused_by refusal
 reading_of variables long (Tells told) = if told.ended then Values (values_told variables told.literals) else NoText (counted long)
 
 -- the values of so many variables that a text tells, whose last line may lack its LF
 unfoldable pub model_of : ℕ → List ℕ → Reading
-model_of variables text = reading_of variables (length text) (after_lines variables (record { literals = []; ended = false }) 0 (whole_lines text ++ last_part text ∷ []))
+model_of variables text = reading_of variables (length text) (after_lines variables (record { literals = []; ended = false }) 0 0 (whole_lines text ++ last_part text ∷ []))

@@ -27,7 +27,7 @@ impl Model for Lines {
 
     ghost Value = { ReaderView };
 
-    ghost view = { λ l. record { table = l.values; ended = l.ended; at = l.at; front = [] } };
+    ghost view = { λ l. record { table = l.values; ended = l.ended; at = l.at; count = 0; front = [] } };
 }
 
 // Whether the words that are left are the word `SATISFIABLE` alone.

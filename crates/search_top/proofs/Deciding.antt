@@ -1,8 +1,8 @@
 -- How the files of a run come to an ending.
 use Rattle.std.proofs.Common.{◌≡◌, List, ℕ, ◌++◌, refl, subst}
 use Rattle.pl_io.specs.Outside.{Heard}
-use Rattle.input_files.specs.Limits.{file_in}
-use Rattle.input_files.specs.Files.{AreTaken, StopsFrom}
+use Rattle.plan_tasks.specs.Limits.{file_in}
+use Rattle.plan_tasks.specs.Files.{AreTaken, StopsFrom}
 use Rattle.plan_endings.specs.declared.ending.Ending.{Ending}
 use Rattle.plan_endings.specs.declared.ending.File.TheVariants.{Proof}
 use Rattle.search_top.specs.declared.ended.Ended.{Ended}

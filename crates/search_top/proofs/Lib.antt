@@ -1,5 +1,6 @@
 mod Lines
 mod Runs
+mod Knowing
 mod Promises
 mod Deciding
 mod Fit

@@ -18,7 +18,7 @@ use Rattle.grounding_defs.specs.Grounded.{Grounded}
 use Rattle.grounding_defs.specs.Laws.{AreNumbers}
 use Rattle.plan_report.specs.Listings.{call_at}
 use Rattle.plan_report.specs.Report.{action_text}
-use Rattle.search_top.specs.Laws.{WalkLaws}
+use Rattle.search_top.specs.Laws.{TopLaws}
 use Rattle.search_top.specs.Report.{states_line, plan_line, plan_words}
 use Rattle.search_top.specs.declared.request.How.{How}
 use Rattle.search_top.specs.declared.request.How.TheVariants.{Greedy, Least}
@@ -27,6 +27,11 @@ use Rattle.search_top.specs.declared.request.How.TheVariants.{Greedy, Least}
 pub one_by_one : (line : ℕ → List ℕ) (ns : List ℕ) → flat_map (λ n. joined (line n ∷ [])) ns ≡ joined (map line ns)
 one_by_one line [] = refl
 one_by_one line (n ∷ ns) = append_assoc (line n) (10 ∷ []) (flat_map (λ k. joined (line k ∷ [])) ns) ∙ ap (λ (rest : List ℕ). line n ++ 10 ∷ rest) (one_by_one line ns)
+
+-- three texts are appended, one after another
+pub pushed_three : (old a b c one two new : List ℕ) → one ≡ old ++ a → two ≡ one ++ b → new ≡ two ++ c → new ≡ old ++ (a ++ (b ++ c))
+pushed_three old a b c one two new first second third =
+    third ∙ (ap (λ (t : List ℕ). t ++ c) (second ∙ ap (λ (t : List ℕ). t ++ b) first) ∙ (append_assoc (old ++ a) b c ∙ append_assoc old a (b ++ c)))
 
 -- a line and then others are appended
 pub lines_pushed : {X E : Type 0} (r : Result X E) (first : List ℕ) (line : ℕ → List ℕ) (ns old middle new : List ℕ) → middle ≡ old ++ joined (first ∷ [])
@@ -40,7 +45,7 @@ lines_pushed (Ok x) first line ns old middle new begun h =
 number_line : (n : ℕ) → n < 2 ^ 64 → is_line (decimal n) ≡ true
 number_line n small = word_line (decimal n) (decimal_word n small)
 
-module _ (laws : WalkLaws) (p : Parts) (g : Grounded) (well : IsWellFormed p) where
+module _ (laws : TopLaws) (p : Parts) (g : Grounded) (well : IsWellFormed p) where
   calls_spelled : (actions : List ℕ) (calls : List Call) → AreNumbers g calls actions → list_all (is_call p) calls ≡ true → SpellsAnywhere p (joined (map (action_text p g) actions)) calls
   calls_spelled [] [] numbers are = laws.nothing p
   calls_spelled [] (c ∷ cs) numbers are = absurd numbers

@@ -1,7 +1,9 @@
 -- The promises of the top call, each from what it needs alone: mostly that its ending has a cause and that its text is written.
-use Rattle.std.proofs.Common.{◌≡◌, ◌≤◌, ℕ, List, [], ◌∷◌, ◌++◌, Option, Some, None, refl, sym, ap, subst, ◌∙◌, arith, inl, inr}
-use Rattle.std.specs.Prelude.{Contains, ◌⊎◌, Ok}
+use Rattle.std.proofs.Common.{◌≡◌, ◌≤◌, ℕ, List, [], ◌∷◌, ◌++◌, length, Result, Ok, Err, Option, Some, None, refl, sym, ap, subst, ◌∙◌, arith, inl, inr}
+use Rattle.std.specs.Prelude.{Contains, ◌⊎◌}
 use Rattle.pl_io.specs.Outside.{Heard, appended}
+use Rattle.report_lines.specs.Lines.{joined}
+use Rattle.gt_core.specs.Task.{Task}
 use Rattle.pd_model.specs.Plan.{IsPlan}
 use Rattle.pd_model.specs.declared.calls.Call.{Call}
 use Rattle.pd_model.specs.declared.parts.Parts.{Parts}
@@ -13,27 +15,47 @@ use Rattle.state_search.specs.declared.answer.End.{End}
 use Rattle.state_search.specs.declared.answer.End.TheVariants as ends
 use Rattle.plan_endings.specs.declared.ending.File.TheVariants.{Proof}
 use Rattle.plan_endings.proofs.published.Statuses.{six_seven, six_seven_eight}
-use Rattle.input_files.specs.Limits.{file_in}
-use Rattle.input_files.specs.Files.{RoseAmong}
-use Rattle.input_files.proofs.published.Hearing.{two_taken}
+use Rattle.plan_tasks.specs.Limits.{file_in}
+use Rattle.plan_tasks.specs.Files.{AreTaken, RoseAmong}
+use Rattle.plan_tasks.proofs.published.Hearing.{two_taken, three_taken}
 use Rattle.plan_tasks.specs.Tasks.{AreTask, IsReady}
 use Rattle.plan_tasks.specs.Claims.{Printed, OfFiles}
 use Rattle.plan_tasks.proofs.published.Printing.{printed_is}
 use Rattle.plan_tasks.proofs.published.Statuses.{task_between, files_between}
 use Rattle.plan_tasks.proofs.published.TellingPlans.{calls_fit}
+use Rattle.two_invariants.specs.Closed.{AreInvariants}
+use Rattle.never_defs.specs.Forward.{GoalPassesForward}
+use Rattle.never_check.specs.Exclusions.{IsExclusion}
+use Rattle.never_check.specs.Verdicts.{IsForwardVerdict}
+use Rattle.never_check.specs.BackwardVerdicts.{IsBackwardVerdict}
+use Rattle.never_check.specs.WeightsVerdicts.{IsWeightsVerdict}
+use Rattle.never_check.specs.declared.excluded.Exclusion.{Exclusion}
+use Rattle.never_check.specs.declared.excluded.Exclusion.TheVariants as exclusions
+use Rattle.never_check.specs.declared.forward.ForwardVerdict.{ForwardVerdict}
+use Rattle.never_check.specs.declared.forward.ForwardVerdict.TheVariants as forwards
+use Rattle.never_check.specs.declared.backward.BackwardVerdict.{BackwardVerdict}
+use Rattle.never_check.specs.declared.backward.BackwardVerdict.TheVariants as backwards
+use Rattle.never_check.specs.declared.weights.WeightsVerdict.{WeightsVerdict}
+use Rattle.never_check.specs.declared.weights.WeightsVerdict.TheVariants as weighed
+use Rattle.never_text.specs.Certificate.{Certificate, Nothing, Forward, Backward, Weights, certificate_of}
+use Rattle.never_text.specs.declared.fault.Fault.{Fault}
 use Rattle.search_top.specs.declared.request.How.{How}
 use Rattle.search_top.specs.declared.request.How.TheVariants as hows
+use Rattle.search_top.specs.declared.judged.Judgement.{Judgement}
+use Rattle.search_top.specs.declared.ended.Finding.{Finding}
+use Rattle.search_top.specs.declared.ended.Finding.TheVariants as findings
 use Rattle.search_top.specs.declared.ended.Ended.{Ended}
 use Rattle.search_top.specs.declared.ended.Ended.TheVariants.{Walked, Usage}
-use Rattle.search_top.specs.Seen.{Seen, searches, names_of}
+use Rattle.search_top.specs.Seen.{Seen, searches, nevers, certifies, names_of}
 use Rattle.search_top.specs.Requested.{requested}
 use Rattle.search_top.specs.Budget.{budget_of}
 use Rattle.search_top.specs.Report.{outcome_of, report_of, IsSmallAnswer}
-use Rattle.search_top.specs.Ended.{status_of, status_of_walk, text_of}
+use Rattle.search_top.specs.Never.{AnswersNever, AnswersCertificate, IsSaidOf, IsJudged, said_forward, said_backward, said_weights, finding_by, finding_of, exclusion_line, judgement_line}
+use Rattle.search_top.specs.Ended.{status_of, status_of_walk, status_of_finding, text_of}
 use Rattle.search_top.specs.Answers.{Answers, AnswersSearch, IsLeastBy, OnceReady, not_ready, ready}
 use Rattle.search_top.specs.Causes.{Comes, no_request, asked, ComesFor, stopped, decided, HasFault, names_in}
-use Rattle.search_top.specs.Laws.{WalkLaws}
-use Rattle.search_top.specs.Headline.{PlanRuns, PlanIsLeast, HasNoPlan, IsSpent}
+use Rattle.search_top.specs.Laws.{TopLaws}
+use Rattle.search_top.specs.Headline.{PlanRuns, PlanIsLeast, HasNoPlan, OfGround, IsSpent, TellsExclusion, IsOpen, OfThree, IsJudgedAs}
 use Rattle.search_top.proofs.Lines.{report_read}
 use Rattle.search_top.proofs.Runs.{numbers_long, run_is_plan}
 
@@ -44,13 +66,41 @@ walk_low (ends.Plan actions) = omega arith
 walk_low ends.NoPlan = omega arith
 walk_low ends.Unfinished = omega arith
 
+finding_low : (finding : Finding) → status_of_finding finding ≤ 3
+finding_low findings.NoPlan = omega arith
+finding_low findings.Rejected = omega arith
+finding_low findings.Open = omega arith
+finding_low findings.Refused = omega arith
+
+-- what comes of files that are ready has a status up to 4, where their answers have
+ready_low : (first second : List ℕ) (answers : Parts → Grounded → Ended → Type 0) → ((task : Parts) (g : Grounded) (end : Ended) → answers task g end → status_of end ≤ 4) → (end : Ended) → OnceReady first second answers end → status_of end ≤ 4
+ready_low first second answers low end (not_ready plain_end stops e) = let b = task_between first second plain_end stops in let is = ap status_of e in omega (arith, b.1, is)
+ready_low first second answers low end (ready task g are is a) = low task g end a
+
+search_low : (how : How) (n m : ℕ) (task : Parts) (g : Grounded) (end : Ended) → AnswersSearch how n m task g end → status_of end ≤ 4
+search_low how n m task g end a = let low = walk_low a.answer.end in let at = ap status_of a.told in omega (arith, low, at)
+
+never_low : (task : Parts) (g : Grounded) (end : Ended) → AnswersNever task g end → status_of end ≤ 4
+never_low task g end a = let low = finding_low (finding_by a.by) in let at = ap status_of a.told in omega (arith, low, at)
+
+certificate_low : (text : List ℕ) (task : Parts) (g : Grounded) (end : Ended) → AnswersCertificate text task g end → status_of end ≤ 4
+certificate_low text task g end a = let low = finding_low (finding_of a.said) in let at = ap status_of a.told in omega (arith, low, at)
+
 module _ (heard hears : List Heard) (failed fails : List (List ℕ)) where
   answers_low : (request : Seen) (files : List (List ℕ)) (end : Ended) → Answers request files end → status_of end ≤ 4
   answers_low (searches d p h n m) [] end k = absurd k
   answers_low (searches d p h n m) (first ∷ []) end k = absurd k
   answers_low (searches d p h n m) (first ∷ (second ∷ (third ∷ files))) end k = absurd k
-  answers_low (searches d p h n m) (first ∷ (second ∷ [])) end (not_ready plain_end stops e) = let b = task_between first second plain_end stops in let is = ap status_of e in omega (arith, b.1, is)
-  answers_low (searches d p h n m) (first ∷ (second ∷ [])) end (ready task g are is a) = let low = walk_low a.answer.end in let at = ap status_of a.told in omega (arith, low, at)
+  answers_low (searches d p h n m) (first ∷ (second ∷ [])) end k = ready_low first second (AnswersSearch h n m) (search_low h n m) end k
+  answers_low (nevers d p) [] end k = absurd k
+  answers_low (nevers d p) (first ∷ []) end k = absurd k
+  answers_low (nevers d p) (first ∷ (second ∷ (third ∷ files))) end k = absurd k
+  answers_low (nevers d p) (first ∷ (second ∷ [])) end k = ready_low first second AnswersNever never_low end k
+  answers_low (certifies d p c) [] end k = absurd k
+  answers_low (certifies d p c) (first ∷ []) end k = absurd k
+  answers_low (certifies d p c) (first ∷ (second ∷ [])) end k = absurd k
+  answers_low (certifies d p c) (first ∷ (second ∷ (third ∷ (fourth ∷ files)))) end k = absurd k
+  answers_low (certifies d p c) (first ∷ (second ∷ (third ∷ []))) end k = ready_low first second (AnswersCertificate third) (certificate_low third) end k
 
   -- 5 where a file could not be read alone
   request_low : (request : Seen) (end : Ended) → ComesFor heard hears failed fails request end → ((status_of end ≡ 5) × RoseAmong (names_of request) failed fails) ⊎ (status_of end ≤ 4)
@@ -106,7 +156,7 @@ unfinished ends.NoPlan two = absurd (omega (arith, two))
 unfinished ends.Unfinished two = refl
 
 -- A task that is ready, and what a walk through its states came to.
-module _ (laws : WalkLaws) (how : How) (n m : ℕ) (task : Parts) (g : Grounded) (is : IsReady task g) (end : Ended) (a : AnswersSearch how n m task g end) where
+module _ (laws : TopLaws) (how : How) (n m : ℕ) (task : Parts) (g : Grounded) (is : IsReady task g) (end : Ended) (a : AnswersSearch how n m task g end) where
   abbrev most : ℕ
   most = budget_of how n m g.task
 
@@ -161,6 +211,97 @@ module _ (laws : WalkLaws) (how : How) (n m : ℕ) (task : Parts) (g : Grounded)
       ∙ ap (λ (k : ℕ). report_of task g how most (record { states = k; end = ends.Unfinished })) all) in
       record { g = g; grounded = is.grounded; only = λ h other. laws.one_result task h g other is.grounded; holds = (subst (AreEntered g.task) all a.is.entered, same) }
 
+-- ---- no plan of any length
+
+finding_none : (finding : Finding) → status_of_finding finding ≡ 0 → finding ≡ findings.NoPlan
+finding_none findings.NoPlan zero = refl
+finding_none findings.Rejected zero = absurd (omega (arith, zero))
+finding_none findings.Open zero = absurd (omega (arith, zero))
+finding_none findings.Refused zero = absurd (omega (arith, zero))
+
+finding_rejected : (finding : Finding) → status_of_finding finding ≡ 1 → finding ≡ findings.Rejected
+finding_rejected findings.NoPlan one = absurd (omega (arith, one))
+finding_rejected findings.Rejected one = refl
+finding_rejected findings.Open one = absurd (omega (arith, one))
+finding_rejected findings.Refused one = absurd (omega (arith, one))
+
+-- a goal that is excluded by something passes
+passes : (task : Task) (known : List (ℕ × ℕ)) (by : Exclusion) → status_of_finding (finding_by by) ≡ 0 → IsExclusion task known by → GoalPassesForward task known []
+passes task known exclusions.Open zero is = absurd (omega (arith, zero))
+passes task known exclusions.Hopeless zero is = is.1
+passes task known (exclusions.One l) zero is = is.2
+passes task known (exclusions.Two l m) zero is = is.3
+
+stays_open : (task : Task) (known : List (ℕ × ℕ)) (by : Exclusion) → status_of_finding (finding_by by) ≡ 2 → IsExclusion task known by → GoalPassesForward task known [] → ⊥
+stays_open task known exclusions.Open two is = is
+stays_open task known exclusions.Hopeless two is = absurd (omega (arith, two))
+stays_open task known (exclusions.One l) two is = absurd (omega (arith, two))
+stays_open task known (exclusions.Two l m) two is = absurd (omega (arith, two))
+
+-- A task that is ready.
+module _ (laws : TopLaws) (task : Parts) (g : Grounded) (is : IsReady task g) where
+  of_ground : (claim : Grounded → Type 0) → claim g → OfGround task claim
+  of_ground claim h = record { g = g; grounded = is.grounded; only = λ h other. laws.one_result task h g other is.grounded; holds = h }
+
+  -- what its goal is excluded by
+  module _ (end : Ended) (a : AnswersNever task g end) where
+    pub never_none : status_of end ≡ 0 → HasNoPlan task
+    never_none zero = laws.excluded task g a.known is.grounded a.invariants (passes g.task a.known a.by (sym (ap status_of a.told) ∙ zero) a.is)
+
+    pub never_excluded : TellsExclusion (text_of end) task
+    never_excluded =
+        of_ground (λ h. (known : List (ℕ × ℕ)) × (by : Exclusion) × AreInvariants h.task known × IsExclusion h.task known by × (text_of end ≡ joined (exclusion_line task h by ∷ [])))
+        (a.known, a.by, a.invariants, a.is, ap text_of a.told)
+
+    pub never_open : status_of end ≡ 2 → IsOpen task
+    never_open two =
+        of_ground (λ h. (known : List (ℕ × ℕ)) × AreInvariants h.task known × (GoalPassesForward h.task known [] → ⊥))
+        (a.known, a.invariants, stays_open g.task a.known a.by (sym (ap status_of a.told) ∙ two) a.is)
+
+  -- what is said of a certificate
+  module _ (known : List (ℕ × ℕ)) (invariants : AreInvariants g.task known) where
+    by_forward : (clauses : List (List ℕ)) (n : ℕ) (verdict : ForwardVerdict) → IsForwardVerdict g.task known clauses verdict → status_of_finding (finding_of (said_forward n verdict)) ≡ 0 → HasNoPlan task
+    by_forward clauses n forwards.Accepted v zero = laws.forward task g known clauses is.grounded invariants v
+    by_forward clauses n (forwards.Initial k) v zero = absurd (omega (arith, zero))
+    by_forward clauses n forwards.Goal v zero = absurd (omega (arith, zero))
+    by_forward clauses n (forwards.Pair k b) v zero = absurd (omega (arith, zero))
+
+    by_backward : (clauses : List (List ℕ)) (n : ℕ) (verdict : BackwardVerdict) → IsBackwardVerdict g.task known clauses verdict → status_of_finding (finding_of (said_backward n verdict)) ≡ 0 → HasNoPlan task
+    by_backward clauses n backwards.Accepted v zero = laws.backward task g known clauses is.grounded invariants v
+    by_backward clauses n backwards.Initial v zero = absurd (omega (arith, zero))
+    by_backward clauses n (backwards.Goal k) v zero = absurd (omega (arith, zero))
+    by_backward clauses n (backwards.Pair k b) v zero = absurd (omega (arith, zero))
+
+    by_weights : (ws : List (ℕ × ℕ)) (verdict : WeightsVerdict) → IsWeightsVerdict g.task known ws verdict → status_of_finding (finding_of (said_weights verdict)) ≡ 0 → HasNoPlan task
+    by_weights ws weighed.Accepted v zero = laws.weights task g known ws is.grounded invariants v
+    by_weights ws weighed.Goal v zero = absurd (omega (arith, zero))
+    by_weights ws (weighed.Action b) v zero = absurd (omega (arith, zero))
+
+    by_certificate : (certificate : Certificate) (said : Judgement) → IsJudged g.task known certificate said → status_of_finding (finding_of said) ≡ 0 → HasNoPlan task
+    by_certificate Nothing said k zero = absurd k
+    by_certificate (Forward clauses) said k zero = by_forward clauses (length clauses) k.0 k.1 (sym (ap (λ (s : Judgement). status_of_finding (finding_of s)) k.2) ∙ zero)
+    by_certificate (Backward clauses) said k zero = by_backward clauses (length clauses) k.0 k.1 (sym (ap (λ (s : Judgement). status_of_finding (finding_of s)) k.2) ∙ zero)
+    by_certificate (Weights ws) said k zero = by_weights ws k.0 k.1 (sym (ap (λ (s : Judgement). status_of_finding (finding_of s)) k.2) ∙ zero)
+
+  by_said : (r : Result Certificate (ℕ × Fault)) (said : Judgement) → IsSaidOf g.task r said → status_of_finding (finding_of said) ≡ 0 → HasNoPlan task
+  by_said (Err fault) said k zero = absurd (let three = ap (λ (s : Judgement). status_of_finding (finding_of s)) k in omega (arith, three, zero))
+  by_said (Ok certificate) said k zero = by_certificate k.0 k.1 certificate said k.2 zero
+
+  module _ (text : List ℕ) (end : Ended) (a : AnswersCertificate text task g end) where
+    pub certified_none : status_of end ≡ 0 → HasNoPlan task
+    certified_none zero = by_said (certificate_of g.task.facts text) a.said a.is (sym (ap status_of a.told) ∙ zero)
+
+    judged_as : (finding : Finding) → finding_of a.said ≡ finding → IsJudgedAs finding (text_of end) text task
+    judged_as finding same =
+        of_ground (λ h. (said : Judgement) × IsSaidOf h.task (certificate_of h.task.facts text) said × (finding_of said ≡ finding) × (text_of end ≡ joined (judgement_line task h said ∷ [])))
+        (a.said, a.is, same, ap text_of a.told)
+
+    pub judged_accepted : status_of end ≡ 0 → IsJudgedAs findings.NoPlan (text_of end) text task
+    judged_accepted zero = judged_as findings.NoPlan (finding_none (finding_of a.said) (sym (ap status_of a.told) ∙ zero))
+
+    pub judged_rejected : status_of end ≡ 1 → IsJudgedAs findings.Rejected (text_of end) text task
+    judged_rejected one = judged_as findings.Rejected (finding_rejected (finding_of a.said) (sym (ap status_of a.told) ∙ one))
+
 -- ---- what is promised
 
 module _ (heard hears : List Heard) (failed fails : List (List ℕ)) (words : List (List ℕ)) (before after : Option (List ℕ)) (status : ℕ) where
@@ -175,46 +316,106 @@ module _ (heard hears : List Heard) (failed fails : List (List ℕ)) (words : Li
       let same : other ≡ request = (let both : Some other ≡ Some request = sym was ∙ is in cc) in
       subst (λ (r : Seen). ComesFor heard hears failed fails r end) same h
 
-  -- A walk was asked for, and the status is one of a walk: the files were taken whole, and what the walk came to gives the claim.
-  module _ (domain problem : List ℕ) (how : How) (n m k : ℕ) (low : k ≤ 2) (claim : Parts → Type 0)
-      (gives : (task : Parts) (g : Grounded) → IsReady task g → (end : Ended) → status_of end ≡ k → after ≡ appended before (text_of end) → AnswersSearch how n m task g end → claim task) where
-    of_ready : (first second : List ℕ) (end : Ended) → status_of end ≡ k → after ≡ appended before (text_of end) → OnceReady first second (AnswersSearch how n m) end → (task : Parts) × AreTask first second task × claim task
-    of_ready first second end at put (not_ready plain_end stops e) = absurd (let b = task_between first second plain_end stops in let same = ap status_of e in omega (arith, b.0, same, at, low))
-    of_ready first second end at put (ready task g are is a) = (task, are, gives task g is end at put a)
+  -- The status is one of an answer.
+  module _ (k : ℕ) (low : k ≤ 2) where
+    of_ready : (first second : List ℕ) (answers : Parts → Grounded → Ended → Type 0) (claim : Parts → Type 0) (end : Ended) → status_of end ≡ k → OnceReady first second answers end
+        → ((task : Parts) (g : Grounded) → IsReady task g → answers task g end → claim task) → (task : Parts) × AreTask first second task × claim task
+    of_ready first second answers claim end at (not_ready plain_end stops e) gives = absurd (let b = task_between first second plain_end stops in let same = ap status_of e in omega (arith, b.0, same, at, low))
+    of_ready first second answers claim end at (ready task g are is a) gives = (task, are, gives task g is a)
 
-    of_request : (end : Ended) → status_of end ≡ k → after ≡ appended before (text_of end) → ComesFor heard hears failed fails (searches domain problem how n m) end → OfFiles heard hears domain problem claim
-    of_request end at put (stopped plain_end took is stops e) = elim (files_between failed fails (file_in Proof) 0 (domain ∷ problem ∷ []) took plain_end stops) [
-      | inl f ↦ absurd (let five = ap status_of e ∙ f.0 in omega (arith, five, at, low))
-      | inr four ↦ absurd (let same = ap status_of e ∙ four in omega (arith, same, at, low))
-    ]
-    of_request end at put (decided files took is are answers) =
-        let two = two_taken (file_in Proof) 0 domain problem took files are in
-        let t = of_ready two.0 two.1 end at put (subst (λ (fs : List (List ℕ)). Answers (searches domain problem how n m) fs end) two.2 answers) in
-        (two.0, two.1, is ∙ ap (λ (hs : List Heard). heard ++ hs) two.3, t.0, t.1, t.2)
-
-    of_files : IsDue → status ≡ k → requested words ≡ Some (searches domain problem how n m) → OfFiles heard hears domain problem claim
-    of_files due at is =
+    -- all files of the request were taken whole, and their bytes come to the ending
+    of_taken : (request : Seen) → IsDue → status ≡ k → requested words ≡ Some request
+        → (end : Ended) × (status_of end ≡ k) × (after ≡ appended before (text_of end)) × (files : List (List ℕ)) × (took : List Heard) × (hears ≡ heard ++ took)
+        × AreTaken (file_in Proof) 0 (names_of request) took files × Answers request files end
+    of_taken request due at is =
         let d = due (λ six. absurd (omega (arith, six, at, low))) (λ eight. absurd (omega (arith, eight, at, low))) in
-        of_request d.0 (sym d.1 ∙ at) d.3 (comes_for (searches domain problem how n m) d.0 is d.2)
+        step d.0 (sym d.1 ∙ at) d.3 (comes_for request d.0 is d.2)
+      where
+        step : (end : Ended) → status_of end ≡ k → after ≡ appended before (text_of end) → ComesFor heard hears failed fails request end
+            → (end : Ended) × (status_of end ≡ k) × (after ≡ appended before (text_of end)) × (files : List (List ℕ)) × (took : List Heard) × (hears ≡ heard ++ took)
+            × AreTaken (file_in Proof) 0 (names_of request) took files × Answers request files end
+        step end here put (stopped plain_end took handed stops e) = elim (files_between failed fails (file_in Proof) 0 (names_of request) took plain_end stops) [
+          | inl f ↦ absurd (let five = ap status_of e ∙ f.0 in omega (arith, five, here, low))
+          | inr four ↦ absurd (let same = ap status_of e ∙ four in omega (arith, same, here, low))
+        ]
+        step end here put (decided files took handed are answers) = (end, here, put, files, took, handed, are, answers)
 
-  module _ (laws : WalkLaws) (due : IsDue) (domain problem : List ℕ) (how : How) (n m : ℕ) (is : requested words ≡ Some (searches domain problem how n m)) where
-    pub runs : (text : List ℕ) → status ≡ 0 → Printed before after text → OfFiles heard hears domain problem (PlanRuns text)
-    runs text zero printed =
-        of_files domain problem how n m 0 (omega arith) (PlanRuns text)
-        (λ task g ready_is end at put a. subst (λ (t : List ℕ). PlanRuns t task) (sym (printed_is before after text (text_of end) printed put)) (plan_runs laws how n m task g ready_is end a at)) due zero is
+    -- A request of two files, whose bytes decide this: what it gives holds of the task.
+    module _ (request : Seen) (domain problem : List ℕ) (names : names_of request ≡ domain ∷ problem ∷ []) (answers : Parts → Grounded → Ended → Type 0)
+        (decides : (first second : List ℕ) (end : Ended) → Answers request (first ∷ second ∷ []) end → OnceReady first second answers end) (claim : Parts → Type 0)
+        (gives : (task : Parts) (g : Grounded) → IsReady task g → (end : Ended) → status_of end ≡ k → after ≡ appended before (text_of end) → answers task g end → claim task) where
+      of_files : IsDue → status ≡ k → requested words ≡ Some request → OfFiles heard hears domain problem claim
+      of_files due at is =
+          let t = of_taken request due at is in
+          let two = two_taken (file_in Proof) 0 domain problem t.4 t.3 (subst (λ (ns : List (List ℕ)). AreTaken (file_in Proof) 0 ns t.4 t.3) names t.6) in
+          let all = decides two.0 two.1 t.0 (subst (λ (fs : List (List ℕ)). Answers request fs t.0) two.2 t.7) in
+          let r = of_ready two.0 two.1 answers claim t.0 t.1 all (λ task g ready_is a. gives task g ready_is t.0 t.1 t.2 a) in
+          (two.0, two.1, t.5 ∙ ap (λ (hs : List Heard). heard ++ hs) two.3, r.0, r.1, r.2)
 
-    pub least : how ≡ hows.Least → (text : List ℕ) → status ≡ 0 → Printed before after text → OfFiles heard hears domain problem (PlanIsLeast text)
-    least by text zero printed =
-        of_files domain problem how n m 0 (omega arith) (PlanIsLeast text)
-        (λ task g ready_is end at put a. subst (λ (t : List ℕ). PlanIsLeast t task) (sym (printed_is before after text (text_of end) printed put)) (plan_is_least laws how n m task g ready_is end a at by)) due zero is
+    -- a request of a certificate
+    of_three : (domain problem certificate : List ℕ) (claim : List ℕ → Parts → Type 0)
+        → ((text : List ℕ) (task : Parts) (g : Grounded) → IsReady task g → (end : Ended) → status_of end ≡ k → after ≡ appended before (text_of end) → AnswersCertificate text task g end → claim text task)
+        → IsDue → status ≡ k → requested words ≡ Some (certifies domain problem certificate) → OfThree heard hears domain problem certificate claim
+    of_three domain problem certificate claim gives due at is =
+        let t = of_taken (certifies domain problem certificate) due at is in
+        let three = three_taken (file_in Proof) 0 domain problem certificate t.4 t.3 t.6 in
+        let all = subst (λ (fs : List (List ℕ)). Answers (certifies domain problem certificate) fs t.0) three.3 t.7 in
+        let r = of_ready three.0 three.1 (AnswersCertificate three.2) (claim three.2) t.0 t.1 all (λ task g ready_is a. gives three.2 task g ready_is t.0 t.1 t.2 a) in
+        (three.0, three.1, three.2, t.5 ∙ ap (λ (hs : List Heard). heard ++ hs) three.4, r.0, r.1, r.2)
 
-    pub no_plan : status ≡ 1 → OfFiles heard hears domain problem HasNoPlan
-    no_plan one = of_files domain problem how n m 1 (omega arith) HasNoPlan (λ task g ready_is end at put a. has_none laws how n m task g ready_is end a at) due one is
+  module _ (laws : TopLaws) (due : IsDue) (domain problem : List ℕ) where
+    module _ (how : How) (n m : ℕ) (is : requested words ≡ Some (searches domain problem how n m)) where
+      of_walk : (k : ℕ) → k ≤ 2 → (claim : Parts → Type 0) → ((task : Parts) (g : Grounded) → IsReady task g → (end : Ended) → status_of end ≡ k → after ≡ appended before (text_of end) → AnswersSearch how n m task g end → claim task)
+          → status ≡ k → OfFiles heard hears domain problem claim
+      of_walk k low claim gives at = of_files k low (searches domain problem how n m) domain problem refl (AnswersSearch how n m) (λ first second end answers. answers) claim gives due at is
 
-    pub spent : (text : List ℕ) → status ≡ 2 → Printed before after text → OfFiles heard hears domain problem (IsSpent how n m text)
-    spent text two printed =
-        of_files domain problem how n m 2 (omega arith) (IsSpent how n m text)
-        (λ task g ready_is end at put a. subst (λ (t : List ℕ). IsSpent how n m t task) (sym (printed_is before after text (text_of end) printed put)) (is_spent laws how n m task g ready_is end a at)) due two is
+      pub runs : (text : List ℕ) → status ≡ 0 → Printed before after text → OfFiles heard hears domain problem (PlanRuns text)
+      runs text zero printed =
+          of_walk 0 (omega arith) (PlanRuns text)
+          (λ task g ready_is end at put a. subst (λ (t : List ℕ). PlanRuns t task) (sym (printed_is before after text (text_of end) printed put)) (plan_runs laws how n m task g ready_is end a at)) zero
+
+      pub least : how ≡ hows.Least → (text : List ℕ) → status ≡ 0 → Printed before after text → OfFiles heard hears domain problem (PlanIsLeast text)
+      least by text zero printed =
+          of_walk 0 (omega arith) (PlanIsLeast text)
+          (λ task g ready_is end at put a. subst (λ (t : List ℕ). PlanIsLeast t task) (sym (printed_is before after text (text_of end) printed put)) (plan_is_least laws how n m task g ready_is end a at by)) zero
+
+      pub no_plan : status ≡ 1 → OfFiles heard hears domain problem HasNoPlan
+      no_plan one = of_walk 1 (omega arith) HasNoPlan (λ task g ready_is end at put a. has_none laws how n m task g ready_is end a at) one
+
+      pub spent : (text : List ℕ) → status ≡ 2 → Printed before after text → OfFiles heard hears domain problem (IsSpent how n m text)
+      spent text two printed =
+          of_walk 2 (omega arith) (IsSpent how n m text)
+          (λ task g ready_is end at put a. subst (λ (t : List ℕ). IsSpent how n m t task) (sym (printed_is before after text (text_of end) printed put)) (is_spent laws how n m task g ready_is end a at)) two
+
+    module _ (is : requested words ≡ Some (nevers domain problem)) where
+      of_never : (k : ℕ) → k ≤ 2 → (claim : Parts → Type 0) → ((task : Parts) (g : Grounded) → IsReady task g → (end : Ended) → status_of end ≡ k → after ≡ appended before (text_of end) → AnswersNever task g end → claim task)
+          → status ≡ k → OfFiles heard hears domain problem claim
+      of_never k low claim gives at = of_files k low (nevers domain problem) domain problem refl AnswersNever (λ first second end answers. answers) claim gives due at is
+
+      pub never : status ≡ 0 → OfFiles heard hears domain problem HasNoPlan
+      never zero = of_never 0 (omega arith) HasNoPlan (λ task g ready_is end at put a. never_none laws task g ready_is end a at) zero
+
+      pub excluded : (text : List ℕ) → status ≡ 0 → Printed before after text → OfFiles heard hears domain problem (TellsExclusion text)
+      excluded text zero printed =
+          of_never 0 (omega arith) (TellsExclusion text)
+          (λ task g ready_is end at put a. subst (λ (t : List ℕ). TellsExclusion t task) (sym (printed_is before after text (text_of end) printed put)) (never_excluded laws task g ready_is end a)) zero
+
+      pub left_open : status ≡ 2 → OfFiles heard hears domain problem IsOpen
+      left_open two = of_never 2 (omega arith) IsOpen (λ task g ready_is end at put a. never_open laws task g ready_is end a at) two
+
+    module _ (certificate : List ℕ) (is : requested words ≡ Some (certifies domain problem certificate)) where
+      pub certified : status ≡ 0 → OfThree heard hears domain problem certificate (λ bytes. HasNoPlan)
+      certified zero = of_three 0 (omega arith) domain problem certificate (λ bytes. HasNoPlan) (λ text task g ready_is end at put a. certified_none laws task g ready_is text end a at) due zero is
+
+      pub accepted : (text : List ℕ) → status ≡ 0 → Printed before after text → OfThree heard hears domain problem certificate (IsJudgedAs findings.NoPlan text)
+      accepted text zero printed =
+          of_three 0 (omega arith) domain problem certificate (IsJudgedAs findings.NoPlan text)
+          (λ bytes task g ready_is end at put a. subst (λ (t : List ℕ). IsJudgedAs findings.NoPlan t bytes task) (sym (printed_is before after text (text_of end) printed put)) (judged_accepted laws task g ready_is bytes end a at)) due zero is
+
+      pub rejected : (text : List ℕ) → status ≡ 1 → Printed before after text → OfThree heard hears domain problem certificate (IsJudgedAs findings.Rejected text)
+      rejected text one printed =
+          of_three 1 (omega arith) domain problem certificate (IsJudgedAs findings.Rejected text)
+          (λ bytes task g ready_is end at put a. subst (λ (t : List ℕ). IsJudgedAs findings.Rejected t bytes task) (sym (printed_is before after text (text_of end) printed put)) (judged_rejected laws task g ready_is bytes end a at)) due one is
 
   -- ---- words and faults
 

@@ -21,11 +21,14 @@ able_below : (task : Task) (s : ℕ → Bool) (actions : List ℕ) → CanRun ta
 able_below task s [] can = tt
 able_below task s (a ∷ others) can = (can.0.action, able_below task (next_of_one task s a) others can.1)
 
+-- there are as many calls as actions
+pub actions_are : (p : Parts) (g : Grounded) → IsGrounded p g → length g.task.actions ≡ length g.calls
+actions_are p g is = ap (λ (t : Task). length t.actions) is.task ∙ length-map g.calls _
+
 -- those of a plan have calls
 pub end_below : (p : Parts) (g : Grounded) (most states : ℕ) (end : End) → IsGrounded p g → IsEnd g.task most states end → IsBelow (length g.calls) end
 end_below p g most states (ends.Plan actions) is run =
-    let long : length g.task.actions ≡ length g.calls = ap (λ (t : Task). length t.actions) is.task ∙ length-map g.calls _ in
-    subst (λ (n : ℕ). AllByRecursion (λ (a : ℕ). a < n) actions) long (able_below g.task (initial_state g.task) actions run.runs)
+    subst (λ (n : ℕ). AllByRecursion (λ (a : ℕ). a < n) actions) (actions_are p g is) (able_below g.task (initial_state g.task) actions run.runs)
 end_below p g most states ends.NoPlan is run = tt
 end_below p g most states ends.Unfinished is run = tt
 

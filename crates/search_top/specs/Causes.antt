@@ -1,8 +1,8 @@
 -- When each ending of a run comes.
 use Rattle.std.specs.Prelude.{◌≡◌, ℕ, List, [], ◌++◌, Some, None}
 use Rattle.pl_io.specs.Outside.{Heard}
-use Rattle.input_files.specs.Limits.{file_in}
-use Rattle.input_files.specs.Files.{AreTaken, StopsFrom, RoseAmong}
+use Rattle.plan_tasks.specs.Limits.{file_in}
+use Rattle.plan_tasks.specs.Files.{AreTaken, StopsFrom, RoseAmong}
 use Rattle.plan_endings.specs.declared.ending.Ending.{Ending}
 use Rattle.plan_endings.specs.declared.ending.File.TheVariants.{Proof}
 use Rattle.search_top.specs.Seen.{Seen, names_of}

@@ -1,5 +1,15 @@
 -- What is promised of the files.
-use Rattle.std.specs.Prelude.{◌≡◌, ◌≤◌, ℕ, List, [], ◌∷◌, length, Ok, codes}
+use Rattle.std.specs.Prelude.{◌≡◌, ◌≤◌, ℕ, List, [], ◌∷◌, ◌++◌, length, Ok, codes}
+use Rattle.pl_io.specs.Outside.{Heard, whole}
+use Rattle.two_invariants.specs.Closed.{AreInvariants}
+use Rattle.never_defs.specs.Forward.{GoalPassesForward}
+use Rattle.never_check.specs.Exclusions.{IsExclusion}
+use Rattle.never_check.specs.declared.excluded.Exclusion.{Exclusion}
+use Rattle.never_text.specs.Certificate.{certificate_of}
+use Rattle.plan_tasks.specs.Tasks.{AreTask}
+use Rattle.search_top.specs.declared.ended.Finding.{Finding}
+use Rattle.search_top.specs.declared.judged.Judgement.{Judgement}
+use Rattle.search_top.specs.Never.{exclusion_line, IsSaidOf, finding_of, judgement_line}
 use Rattle.report_lines.specs.Lines.{joined}
 use Rattle.pd_model.specs.Plan.{IsPlan}
 use Rattle.pd_model.specs.declared.calls.Call.{Call}
@@ -27,6 +37,30 @@ pub record OfGround (task : Parts) (claim : Grounded → Type 0) : Type 0 where
   pub grounded : IsGrounded task g
   pub only : (h : Grounded) → IsGrounded task h → h ≡ g
   pub holds : claim g
+
+-- ---- no plan of any length
+
+-- the goal of the task is excluded under its invariants, and the text tells by what
+abbrev pub TellsExclusion : List ℕ → Parts → Type 0
+TellsExclusion text task =
+    OfGround task (λ g. (known : List (ℕ × ℕ)) × (by : Exclusion) × AreInvariants g.task known × IsExclusion g.task known by × (text ≡ joined (exclusion_line task g by ∷ [])))
+
+-- the invariants of the task do not exclude its goal, and it is not hopeless
+abbrev pub IsOpen : Parts → Type 0
+IsOpen task = OfGround task (λ g. (known : List (ℕ × ℕ)) × AreInvariants g.task known × (GoalPassesForward g.task known [] → ⊥))
+
+-- What was handed over in between is three files of these names, all of each, of which two are a task, and the claim holds of it and of the
+-- bytes of the third.
+abbrev pub OfThree : List Heard → List Heard → List ℕ → List ℕ → List ℕ → (List ℕ → Parts → Type 0) → Type 0
+OfThree old new domain problem third claim =
+    (first second other : List ℕ) × (new ≡ old ++ whole domain first ∷ whole problem second ∷ whole third other ∷ []) × (task : Parts) × AreTask first second task × claim other task
+
+-- this is said of a certificate by the check of its kind, under the invariants of the task; it comes to the finding, and the text tells it
+abbrev pub IsJudgedAs : Finding → List ℕ → List ℕ → Parts → Type 0
+IsJudgedAs finding text certificate task =
+    OfGround task (λ g. (said : Judgement) × IsSaidOf g.task (certificate_of g.task.facts certificate) said × (finding_of said ≡ finding) × (text ≡ joined (judgement_line task g said ∷ [])))
+
+-- ---- walks
 
 -- as many states as the budget says were entered, each reached and no two equal, and the text tells that
 abbrev pub IsSpent : How → ℕ → ℕ → List ℕ → Parts → Type 0

@@ -4,8 +4,11 @@ pub mod Causes
 pub mod Command
 pub mod Ended
 pub mod Headline
+pub mod Hopeless
 pub mod Laws
 pub mod Limits
+pub mod Literals
+pub mod Never
 pub mod Report
 pub mod Requested
 pub mod Seen

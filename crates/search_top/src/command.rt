@@ -19,6 +19,7 @@ const GREATEST_MEMORY: i64 = MOST_MEMORY as i64;
 #[derive(Clone, Copy)]
 pub enum Name {
     Search,
+    Never,
 }
 
 static HOW: [&str; 2] = ["greedy", "least"];
@@ -29,6 +30,7 @@ pub(crate) fn name_of(word: &str) -> Option<Name>
 {
     match word {
         "search" => Some(Name::Search),
+        "never" => Some(Name::Never),
         _ => None,
     }
 }
@@ -63,6 +65,11 @@ pub(crate) fn command_by<'a>(
                 ),
                 Argument::Long("memory", ValueParser::Signed(1, GREATEST_MEMORY), "1024"),
             ],
+        ),
+        Name::Never => with_all(
+            alloc,
+            "never",
+            &[Argument::Word("domain"), Argument::Words("problem")],
         ),
     }
 }

@@ -1,21 +1,22 @@
 //! How a run ends, before anything is written.
 ghost use Rattle.std.specs.Prelude.{◌≡◌, ◌≤◌, ℕ, List, length, map, string_bytes, None, Ok};
 ghost use Rattle.pl_io.specs.Outside.{Agrees, fault_count};
-ghost use Rattle.input_files.specs.Files.{NotesAmong};
-ghost use Rattle.input_files.specs.Limits.{file_in, AreShort};
-ghost use Rattle.input_files.specs.Named.{bytes_of};
+ghost use Rattle.plan_tasks.specs.Files.{NotesAmong};
+ghost use Rattle.plan_tasks.specs.Limits.{file_in, AreShort};
+ghost use Rattle.plan_tasks.specs.Named.{bytes_of};
 ghost use Rattle.plan_endings.specs.declared.ending.File.TheVariants.{Proof};
 ghost use Rattle.search_top.specs.Requested.{requested, command_named};
 ghost use Rattle.search_top.specs.Seen.{seen, names_of, IsSized};
 ghost use Rattle.search_top.specs.Answers.{EndsWith, Answers};
 ghost use Rattle.search_top.specs.Causes.{ComesFor, Comes, names_in};
 
+use crate::never::{answer_certificate, answer_never};
 use crate::search::answer_search;
 use crate::{Ended, Request};
-use input_files::take::{Files, take_all};
 use pl_io::Shelf;
 use plan_endings::File;
 use plan_endings::stop::Stop;
+use plan_tasks::take::{Files, take_all};
 use requests::read_words;
 use std::alloc::Global;
 use std::thread::Threads;
@@ -86,5 +87,19 @@ fn answer<H: Threads + Sync>(
             *states,
             *memory,
         ),
+        Request::Never { .. } => {
+            answer_never(rt, alloc, files.domain.as_slice(), files.problem.as_slice())
+        }
+        Request::Certify { .. } => match &files.third {
+            Some(certificate) => answer_certificate(
+                rt,
+                alloc,
+                files.domain.as_slice(),
+                files.problem.as_slice(),
+                certificate.as_slice(),
+            ),
+            // The names are three.
+            None => unreachable!(),
+        },
     }
 }

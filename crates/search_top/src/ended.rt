@@ -21,6 +21,19 @@ pub enum Outcome {
     Unfinished,
 }
 
+/// What came of it that it was tried to show that there is no plan of any length.
+#[derive(Clone, Copy, PartialEq, Eq)]
+pub enum Finding {
+    /// There is none.
+    NoPlan,
+    /// The certificate does not show it.
+    Rejected,
+    /// That is open.
+    Open,
+    /// What was handed in is no certificate.
+    Refused,
+}
+
 /// How a run ends, but for want of memory and a write fault.
 #[derive(Drop)]
 pub enum Ended {
@@ -28,6 +41,8 @@ pub enum Ended {
     Plain(Ending),
     /// A walk through the states ended, with its report.
     Walked { outcome: Outcome, text: Bytes },
+    /// It was tried to show that there is no plan of any length, and this text tells what came of it.
+    Shown { finding: Finding, text: Bytes },
     /// The words are none that are taken.
     Usage,
 }
@@ -62,6 +77,22 @@ impl RunEnd for Ended {
                 outcome: Outcome::Unfinished,
                 ..
             } => 2,
+            Ended::Shown {
+                finding: Finding::NoPlan,
+                ..
+            } => 0,
+            Ended::Shown {
+                finding: Finding::Rejected,
+                ..
+            } => 1,
+            Ended::Shown {
+                finding: Finding::Open,
+                ..
+            } => 2,
+            Ended::Shown {
+                finding: Finding::Refused,
+                ..
+            } => 3,
             Ended::Usage => 7,
         }
     }
@@ -70,7 +101,8 @@ impl RunEnd for Ended {
         match self {
             Ended::Plain(ending) => ending.text(alloc),
             Ended::Walked { text, .. } => Ok(Due::Made(text)),
-            Ended::Usage => Ok(Due::Fixed("; usage: search\n")),
+            Ended::Shown { text, .. } => Ok(Due::Made(text)),
+            Ended::Usage => Ok(Due::Fixed("; usage: search or never\n")),
         }
     }
 }

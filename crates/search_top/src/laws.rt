@@ -1,11 +1,12 @@
 //! What the crates below promise, gathered.
-ghost use Rattle.search_top.specs.Laws.{WalkLaws};
+ghost use Rattle.search_top.specs.Laws.{TopLaws};
 
-/// The laws on which the promises of a walk rest, for proofs; it does nothing.
+/// The laws on which the promises rest, for proofs; it does nothing.
 pub(crate) fn laws()
-    ensures { WalkLaws }
+    ensures { TopLaws }
 {
     grounding_defs::laws::laws();
     search_laws::laws::laws();
+    never_laws::laws::laws();
     pd_plan::laws();
 }

@@ -3,6 +3,8 @@
 //! ```text
 //! match read_words::<Request>(alloc, words)? {
 //!     Some(Request::Search { domain, problem, how, states, memory }) => ..,
+//!     Some(Request::Never { domain, problem }) => ..,
+//!     Some(Request::Certify { domain, problem, certificate }) => ..,
 //!     None => usage(),
 //! }
 //! ```
@@ -13,8 +15,7 @@ ghost use Rattle.requests.specs.Fit.{IsFit};
 ghost use Rattle.requests.specs.Passed.{Passed};
 ghost use Rattle.requests.specs.Same.{IsSame};
 ghost use Rattle.search_top.specs.Command.{command_of, named, how_list, Has};
-ghost use Rattle.search_top.specs.Requested.{some_in};
-ghost use Rattle.search_top.specs.Seen.{Seen, seen, IsSized};
+ghost use Rattle.search_top.specs.Seen.{Seen, seen, seen_in, IsSized};
 
 use crate::command::{Name, command_by, how_reader, name_of};
 use crate::request::Request;
@@ -38,7 +39,7 @@ impl<'a> Asked<'a> for Request<'a> {
 
     ghost has_values = { Has };
 
-    ghost seen_in = { some_in };
+    ghost seen_in = { seen_in };
 
     fn name_of(word: &str) -> Option<Name>
         ensures { result ≡ named word.now }
@@ -60,9 +61,9 @@ impl<'a> Asked<'a> for Request<'a> {
         matches: &ArgMatches<'a>,
     ) -> Result<Option<Request<'a>>, Memory>
         requires { Has name (rows_of (found_of matches.now)) }
-        ensures value { IfOk result (λ o. option_map seen o ≡ some_in name (rows_of (found_of matches.now))) }
+        ensures value { IfOk result (λ o. option_map seen o ≡ seen_in name (rows_of (found_of matches.now))) }
         ensures sized { IfOk result (λ o. IfSome o (λ r. IsSized (seen r))) }
     {
-        Ok(Some(request_in(name, matches)))
+        Ok(request_in(name, matches))
     }
 }

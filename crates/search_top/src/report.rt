@@ -60,12 +60,20 @@ fn push_plan(how: How, actions: usize, text: &mut Vec<u8>) -> Result<(), Memory>
     Ok(())
 }
 
+/// Appends the call of an action.
+pub(crate) fn push_call_of(p: &Pddl, g: &Grounded, a: u32, text: &mut Vec<u8>) -> Result<(), Memory>
+    requires { a < length g.now.calls }
+    ensures { OnOk result (text.new.items ≡ text.old.items ++ action_text p.now g.now a) }
+{
+    push_call(p, g.call(a), text)
+}
+
 // Appends the line of an action's call.
 fn push_action(p: &Pddl, g: &Grounded, a: u32, text: &mut Vec<u8>) -> Result<(), Memory>
     requires { a < length g.now.calls }
     ensures { OnOk result (text.new.items ≡ text.old.items ++ joined (action_text p.now g.now a ∷ [])) }
 {
-    push_call(p, g.call(a), text)?;
+    push_call_of(p, g, a, text)?;
     text.extend_from_slice(b"\n")?;
     Ok(())
 }

@@ -1,9 +1,9 @@
 //! What words can ask for.
 ghost use Rattle.std.specs.Prelude.{◌≡◌};
-ghost use Rattle.input_files.specs.Named.{names_of as names_in};
+ghost use Rattle.plan_tasks.specs.Named.{names_of as names_in};
 ghost use Rattle.search_top.specs.Seen.{seen, names_of};
 
-use input_files::take::Names;
+use plan_tasks::take::Names;
 
 /// How a walk through the states goes.
 #[derive(Clone, Copy, PartialEq, Eq)]
@@ -25,6 +25,17 @@ pub enum Request<'a> {
         states: u32,
         memory: u32,
     },
+    /// Whether grounding or the invariants alone show that there is no plan of any length.
+    Never {
+        domain: &'a str,
+        problem: &'a str,
+    },
+    /// Whether a certificate shows it.
+    Certify {
+        domain: &'a str,
+        problem: &'a str,
+        certificate: &'a str,
+    },
 }
 
 impl<'a> Request<'a> {
@@ -37,10 +48,20 @@ impl<'a> Request<'a> {
                 domain,
                 problem,
                 ..
-            } => Names {
+            }
+            | Request::Never { domain, problem } => Names {
                 domain,
                 problem,
                 third: None,
+            },
+            Request::Certify {
+                domain,
+                problem,
+                certificate,
+            } => Names {
+                domain,
+                problem,
+                third: Some(certificate),
             },
         }
     }

@@ -1,16 +1,17 @@
 //! The top call.
 ghost use Rattle.std.specs.Prelude.{◌≡◌, ◌≢◌, ◌≤◌, ℕ, List, [], ◌∷◌, map, string_bytes, Some, None, Contains};
 ghost use Rattle.pl_io.specs.Outside.{Agrees, appended, TakesFront, Rose, fault_count};
-ghost use Rattle.input_files.specs.Files.{NotesAmong};
+ghost use Rattle.plan_tasks.specs.Files.{NotesAmong};
 ghost use Rattle.plan_tasks.specs.Claims.{Printed, OfFiles};
 ghost use Rattle.search_top.specs.declared.request.How.{How};
 ghost use Rattle.search_top.specs.declared.request.How.TheVariants as how;
 ghost use Rattle.search_top.specs.Requested.{requested, command_named};
-ghost use Rattle.search_top.specs.Seen.{searches};
+ghost use Rattle.search_top.specs.Seen.{searches, nevers, certifies};
 ghost use Rattle.search_top.specs.Ended.{status_of, text_of};
+ghost use Rattle.search_top.specs.declared.ended.Finding.TheVariants as Finding;
 ghost use Rattle.search_top.specs.declared.ended.Ended.{Ended};
 ghost use Rattle.search_top.specs.Causes.{Comes, HasFault, names_in};
-ghost use Rattle.search_top.specs.Headline.{PlanRuns, PlanIsLeast, HasNoPlan, IsSpent};
+ghost use Rattle.search_top.specs.Headline.{PlanRuns, PlanIsLeast, HasNoPlan, IsSpent, TellsExclusion, IsOpen, OfThree, IsJudgedAs};
 
 use crate::decide::decide;
 use crate::laws::laws;
@@ -23,7 +24,8 @@ use std::thread::Threads;
 ///
 /// The words are those after the program's name: `search DOMAIN PROBLEM [--how greedy|least] [--states N] [--memory MB]` has the states
 /// of the task walked through, in search of some plan or of one with the least number of actions, by entering N states at most, and as
-/// many as tables of so many megabytes hold.
+/// many as tables of so many megabytes hold. `never DOMAIN PROBLEM` asks whether grounding or the invariants show that there is no plan of any
+/// length, and `never DOMAIN PROBLEM CERTIFICATE` whether a certificate shows it.
 pub fn run<H: Threads + Sync, S: Shelf, K: Sink>(
     rt: &H,
     alloc: Global,
@@ -50,6 +52,30 @@ pub fn run<H: Threads + Sync, S: Shelf, K: Sink>(
     ensures spent { (text domain problem : List ℕ) (how : How) (states memory : ℕ) → result.0 ≡ 2 → Printed (K.taken sink.old) (K.taken sink.new) text
         → requested (map string_bytes words.now) ≡ Some (searches domain problem how states memory)
         → OfFiles (S.heard shelf.old) (S.heard shelf.new) domain problem (IsSpent how states memory text) }
+
+    // Of `never`: with status 0 there is no plan of any length, and the text tells by what the goal is excluded; with status 2 the invariants
+    // leave it open.
+    ensures never { (domain problem : List ℕ) → result.0 ≡ 0
+        → requested (map string_bytes words.now) ≡ Some (nevers domain problem)
+        → OfFiles (S.heard shelf.old) (S.heard shelf.new) domain problem HasNoPlan }
+    ensures excluded { (text domain problem : List ℕ) → result.0 ≡ 0 → Printed (K.taken sink.old) (K.taken sink.new) text
+        → requested (map string_bytes words.now) ≡ Some (nevers domain problem)
+        → OfFiles (S.heard shelf.old) (S.heard shelf.new) domain problem (TellsExclusion text) }
+    ensures open { (domain problem : List ℕ) → result.0 ≡ 2
+        → requested (map string_bytes words.now) ≡ Some (nevers domain problem)
+        → OfFiles (S.heard shelf.old) (S.heard shelf.new) domain problem IsOpen }
+
+    // With a certificate: with status 0 there is no plan of any length, and the certificate is one by the definition of its kind; with status 1
+    // the text tells what does not pass by it.
+    ensures certified { (domain problem certificate : List ℕ) → result.0 ≡ 0
+        → requested (map string_bytes words.now) ≡ Some (certifies domain problem certificate)
+        → OfThree (S.heard shelf.old) (S.heard shelf.new) domain problem certificate (λ bytes. HasNoPlan) }
+    ensures accepted { (text domain problem certificate : List ℕ) → result.0 ≡ 0 → Printed (K.taken sink.old) (K.taken sink.new) text
+        → requested (map string_bytes words.now) ≡ Some (certifies domain problem certificate)
+        → OfThree (S.heard shelf.old) (S.heard shelf.new) domain problem certificate (IsJudgedAs Finding.NoPlan text) }
+    ensures rejected { (text domain problem certificate : List ℕ) → result.0 ≡ 1 → Printed (K.taken sink.old) (K.taken sink.new) text
+        → requested (map string_bytes words.now) ≡ Some (certifies domain problem certificate)
+        → OfThree (S.heard shelf.old) (S.heard shelf.new) domain problem certificate (IsJudgedAs Finding.Rejected text) }
 
     // Each status has its cause, and with every status but 6 the bytes taken are exactly the text due.
     ensures due { result.0 ≢ 6 → result.0 ≢ 8 → (end : Ended) × (result.0 ≡ status_of end)

@@ -1,5 +1,5 @@
 //! The values in a command's matches.
-ghost use Rattle.std.specs.Prelude.{◌≡◌, codes};
+ghost use Rattle.std.specs.Prelude.{◌≡◌, codes, option_map, IfSome};
 ghost use Rattle.clap.specs.Words.{found_of, rows_of};
 ghost use Rattle.requests.specs.Passed.{text_at};
 ghost use Rattle.search_top.specs.Command.{Has};
@@ -9,7 +9,7 @@ use crate::command::Name;
 use crate::limits::{MOST_MEMORY, MOST_STATES};
 use crate::request::{How, Request};
 use clap::ArgMatches;
-use requests::{number, text};
+use requests::{number, text, texts};
 
 // How the walk goes.
 fn how_in(matches: &ArgMatches<'_>) -> How
@@ -21,19 +21,43 @@ fn how_in(matches: &ArgMatches<'_>) -> How
     }
 }
 
-/// What the matches of a command ask for.
-pub(crate) fn request_in<'a>(name: Name, matches: &ArgMatches<'a>) -> Request<'a>
+/// What the matches of a command ask for; `None` where they have more files than it takes.
+pub(crate) fn request_in<'a>(name: Name, matches: &ArgMatches<'a>) -> Option<Request<'a>>
     requires { Has name (rows_of (found_of matches.now)) }
-    ensures value { seen result ≡ seen_in name (rows_of (found_of matches.now)) }
-    ensures sized { IsSized (seen result) }
+    ensures value { option_map seen result ≡ seen_in name (rows_of (found_of matches.now)) }
+    ensures sized { IfSome result (λ r. IsSized (seen r)) }
 {
     match name {
-        Name::Search => Request::Search {
+        Name::Search => Some(Request::Search {
             domain: text(matches, "domain"),
             problem: text(matches, "problem"),
             how: how_in(matches),
             states: number(matches, "states", 1, MOST_STATES),
             memory: number(matches, "memory", 1, MOST_MEMORY),
-        },
+        }),
+        Name::Never => never_in(matches),
     }
+}
+
+// The same of `never`.
+fn never_in<'a>(matches: &ArgMatches<'a>) -> Option<Request<'a>>
+    ensures value { option_map seen result ≡ seen_in Name.Never (rows_of (found_of matches.now)) }
+    ensures sized { IfSome result (λ r. IsSized (seen r)) }
+{
+    let domain = text(matches, "domain");
+    let files = texts(matches, "problem")?;
+    if files.len() == 1 {
+        return Some(Request::Never {
+            domain,
+            problem: files[0],
+        });
+    }
+    if files.len() == 2 {
+        return Some(Request::Certify {
+            domain,
+            problem: files[0],
+            certificate: files[1],
+        });
+    }
+    None
 }

@@ -10,7 +10,7 @@ use gt_core::task::Task;
 use std::alloc::Global;
 
 /// Whether actions run one after the other from the initial state, and reach the goal. `before` and `after` are room for two states.
-fn run_to_goal(task: &Task, actions: &[u32], before: &mut [bool], after: &mut [bool]) -> bool
+pub fn run_to_goal(task: &Task, actions: &[u32], before: &mut [bool], after: &mut [bool]) -> bool
     requires before { length before.old ≡ task.now.facts }
     requires after { length after.old ≡ task.now.facts }
     ensures runs { result ≡ true → IsRunToGoal task.now actions.now }

@@ -9,7 +9,7 @@ use Rattle.race_outcome.specs.Ends.{end_view, lines_of}
 use Rattle.race.specs.Race as stage
 use Rattle.race.specs.Lines.{AreLines, EachRefuted}
 use Rattle.race.specs.Ends.{WherePlanned, AreActions, AreStepsOf, SumsWithin}
-use Rattle.certificates.specs.Known.{form_of, formula_at}
+use Rattle.commands.specs.Known.{form_of, formula_at}
 use Rattle.commands.specs.Raced.{input_of, ArePlan, ComesTo, IsKnown, IsTooLarge}
 use Rattle.commands.specs.declared.raced.Known.{Known}
 

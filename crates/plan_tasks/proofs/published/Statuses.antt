@@ -7,7 +7,7 @@ use Rattle.pd_task.specs.declared.error.PddlError.TheVariants as errors
 use Rattle.plan_endings.specs.Ending.{status_of}
 use Rattle.plan_endings.specs.declared.ending.File.{File}
 use Rattle.plan_endings.specs.declared.ending.Ending.{Ending}
-use Rattle.input_files.specs.Files.{StopsFrom, RoseAmong}
+use Rattle.plan_tasks.specs.Files.{StopsFrom, RoseAmong}
 use Rattle.plan_tasks.specs.Tasks.{StopsTask, refused, past, RefusesTask, domain_tree, problem_tree, no_task, refusal_of}
 
 some_status : (k end : Ending) (n : ℕ) → Some k ≡ Some end → status_of k ≡ n → status_of end ≡ n

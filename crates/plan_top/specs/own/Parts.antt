@@ -7,7 +7,7 @@ use Rattle.race.specs.declared.error.RaceError.{RaceError}
 use Rattle.race.specs.declared.error.RaceError.TheVariants as errors
 use Rattle.step_laws.specs.Form.{OrderedTask}
 use Rattle.poll_batch.specs.View.{RaceView}
-use Rattle.certificates.specs.Known.{form_of}
+use Rattle.commands.specs.Known.{form_of}
 use Rattle.formula_defs.specs.Variables.{chain_places}
 use Rattle.gt_core.specs.Step.{IsStepPlan}
 use Rattle.requests.specs.Seen.{Seen, batches, numbers}

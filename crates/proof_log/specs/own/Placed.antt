@@ -1,10 +1,17 @@
--- Numbers where they stand.
+-- Numbers and literals where they stand.
 use Rattle.std.specs.Prelude.{ℕ, List}
 use Rattle.proof_log.specs.own.Numbers.{numbers_of}
 use Rattle.proof_log.specs.declared.numbers.Place.{Place}
 use Rattle.proof_log.specs.declared.numbers.Place.TheVariants.{Bytes, Lits}
+use Rattle.proof_log.specs.declared.literals.Form.{Form}
+use Rattle.proof_log.specs.declared.literals.Form.TheVariants as form
 
 -- the numbers at a place
 abbrev pub numbers_at : Place → List ℕ
 numbers_at (Bytes bytes left last) = numbers_of left last bytes.now
 numbers_at (Lits lits) = lits.now
+
+-- the literals of a clause in their form
+abbrev pub literals_in : Form → List ℕ
+literals_in (form.Shared list) = list
+literals_in (form.Bytes count bytes) = numbers_of count 0 bytes

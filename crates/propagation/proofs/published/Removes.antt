@@ -1,6 +1,7 @@
 -- A clause that is no longer kept: what held of kept clauses holds of fewer.
 use Rattle.std.proofs.Common.{arith, ◌≡◌, ℕ, zero, suc, List, [], ◌∷◌, ◌*◌, length, take, set, get_or, Bool, true, false, ◌&&◌, refl, sym, ap, ◌∙◌, length-set, get_or-set_other, ◌≤◌}
 use Rattle.clause_base.specs.Clause.{has_literal}
+use Rattle.cdcl_tables.specs.Stored.{StoreView, CanReadKept}
 use Rattle.propagation.specs.declared.tables.Tables.{Tables}
 use Rattle.propagation.specs.declared.visit.WatchState.{WatchState}
 use Rattle.propagation.specs.Pending.{is_pending_on}
@@ -17,6 +18,10 @@ kept_before (b ∷ kept) zero zero e = cc
 kept_before (b ∷ kept) zero (suc k) e = e
 kept_before (b ∷ kept) (suc n) zero e = e
 kept_before (b ∷ kept) (suc n) (suc k) e = kept_before kept n k e
+
+-- fewer kept ones can be read
+pub fewer_read : (kept : List Bool) (store : StoreView) (n : ℕ) → CanReadKept kept store → CanReadKept (set kept n false) store
+fewer_read kept store n read = λ k e. read k (kept_before kept n k e)
 
 -- so of the slots
 flags_before : (kept : List Bool) (slots : List ℕ) (n s : ℕ) → get_or (slot_flags (set kept n false) slots) s false ≡ true
@@ -39,9 +44,12 @@ none_by a true h e = let t : a ≡ true = h refl in sym t ∙ e
 none_by a false h e = refl
 
 -- the tables with other flags
-tables_removed : (t t' : Tables) (codes n : ℕ) → AreTables t codes → t'.store ≡ t.store → t'.slots.items ≡ t.slots.items
-    → t'.kept.items ≡ set t.kept.items n false → t'.steps ≡ t.steps → t'.kept_below ≤ t.kept_below → t'.kept_below ≤ n → AreTables t' codes
-tables_removed t t' codes n i store slots kept steps less below = record {
+tables_removed : (t t' : Tables) (codes n : ℕ) → AreTables t codes → t'.store.clauses ≡ t.store.clauses → t'.slots.items ≡ t.slots.items
+    → t'.kept.items ≡ set t.kept.items n false → t'.steps ≡ t.steps → t'.kept_below ≤ t.kept_below → t'.kept_below ≤ n
+    → CanReadKept t'.kept.items t'.store → length t'.store.packed ≡ length t'.store.clauses → AreTables t' codes
+tables_removed t t' codes n i store slots kept steps less below read packed = record {
+  read = read;
+  packed = packed;
   limit = i.limit;
   fit = rw store i.fit;
   small = rw store i.small;
@@ -52,12 +60,13 @@ tables_removed t t' codes n i store slots kept steps less below = record {
   steps = rw (store, slots, steps) i.steps;
 }
 
-pub removed_sound : (v : ℕ) (t t' : Tables) (l : WatchState) (trail : List ℕ) (quiet : List Bool) (n : ℕ) → AreSound v t l trail quiet → t'.store ≡ t.store
+pub removed_sound : (v : ℕ) (t t' : Tables) (l : WatchState) (trail : List ℕ) (quiet : List Bool) (n : ℕ) → AreSound v t l trail quiet → t'.store.clauses ≡ t.store.clauses
     → t'.slots.items ≡ t.slots.items → t'.kept.items ≡ set t.kept.items n false → t'.steps ≡ t.steps
-    → t'.kept_below ≤ t.kept_below → t'.kept_below ≤ n → AreSound v t' l trail quiet
-removed_sound v t t' l trail quiet n i store slots kept steps less below = record {
+    → t'.kept_below ≤ t.kept_below → t'.kept_below ≤ n
+    → CanReadKept t'.kept.items t'.store → length t'.store.packed ≡ length t'.store.clauses → AreSound v t' l trail quiet
+removed_sound v t t' l trail quiet n i store slots kept steps less below read packed = record {
   small = i.small;
-  tables = tables_removed t t' (2 * v) n i.tables store slots kept steps less below;
+  tables = tables_removed t t' (2 * v) n i.tables store slots kept steps less below read packed;
   few = rw store i.few;
   slots_few = rw (store, slots) i.slots_few;
   rest = rw (store, slots, kept) (record {
@@ -74,8 +83,8 @@ removed_sound v t t' l trail quiet n i store slots kept steps less below = recor
   free = rw (store, slots, kept) (λ m h node real must. i.free m h node real (flags_before t.kept.items t.slots.items n _ must));
   consistent = i.consistent;
   asks = rw store i.asks;
-  complete = rw (store, kept) (λ c p. i.complete c (pending_before t.store t.kept.items trail n c p));
+  complete = rw (store, kept) (λ c p. i.complete c (pending_before t.store.clauses t.kept.items trail n c p));
   quiet_size = i.quiet_size;
-  quiets = rw (store, kept) (λ m h q c. none_by (is_pending_on t.store t.kept.items (take m trail) c)
-      (is_pending_on t.store (set t.kept.items n false) (take m trail) c) (pending_before t.store t.kept.items (take m trail) n c) (i.quiets m h q c));
+  quiets = rw (store, kept) (λ m h q c. none_by (is_pending_on t.store.clauses t.kept.items (take m trail) c)
+      (is_pending_on t.store.clauses (set t.kept.items n false) (take m trail) c) (pending_before t.store.clauses t.kept.items (take m trail) n c) (i.quiets m h q c));
 }

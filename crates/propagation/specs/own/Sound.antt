@@ -25,12 +25,12 @@ AreFree clauses nodes kept trail =
 pub record AreSound (variables : ℕ) (t : Tables) (l : WatchState) (trail : List ℕ) (quiet : List Bool) : Type 0 where
   pub small : variables ≤ 2147483647
   pub tables : AreTables t (2 * variables)
-  pub few : length t.store ≤ 2147483647
-  pub slots_few : length t.slots.items ≤ length t.store
+  pub few : length t.store.clauses ≤ 2147483647
+  pub slots_few : length t.slots.items ≤ length t.store.clauses
   pub rest : IsAtRest (clauses_in t) l.resume_at.items l.chains.heads.items l.chains.nodes.items (2 * variables) (flags_in t)
   pub free : (n : ℕ) → n ≤ length trail → AreFree (clauses_in t) l.chains.nodes.items (flags_in t) (take n trail)
   pub consistent : IsConsistent trail
-  pub asks : HasAsks t.store trail l.pending
+  pub asks : HasAsks t.store.clauses trail l.pending
   pub complete : IsComplete (pending_in t trail) l.pending
   pub quiet_size : length quiet ≡ variables + 1
   pub quiets : (n : ℕ) → n < length trail → slice_index_or quiet n false ≡ true → (c : ℕ) → pending_in t (take n trail) c ≡ false

@@ -94,7 +94,7 @@ pub record IsVisiting (clauses : List (List ℕ)) (resume_at heads : List ℕ) (
 -- so do the tables of a propagator stand at a place of a walk
 abbrev pub AreVisited : Tables → WatchState → List ℕ → ℕ → ℕ → List ℕ → Place → Type 0
 AreVisited t l trail codes code rest place =
-    IsVisiting (slot_clauses t.store t.slots.items) l.resume_at.items l.chains.heads.items l.chains.nodes.items codes (slot_flags t.kept.items t.slots.items)
+    IsVisiting (slot_clauses t.store.clauses t.slots.items) l.resume_at.items l.chains.heads.items l.chains.nodes.items codes (slot_flags t.kept.items t.slots.items)
     (has_literal trail) (slot_set (words_have l.pending.numbers) t.slots.items) code rest place
 
 -- past a node at a place of a walk they stand at the next place
@@ -105,5 +105,5 @@ GoesOn t old new trail codes code place next =
 -- the clauses of the slots that still watch a literal are settled
 abbrev pub AreSettled : Tables → WatchState → List ℕ → ℕ → Type 0
 AreSettled t l trail code =
-    AllSettled (slot_clauses t.store t.slots.items) l.chains.nodes.items (has_literal trail) (slot_set (words_have l.pending.numbers) t.slots.items) code
+    AllSettled (slot_clauses t.store.clauses t.slots.items) l.chains.nodes.items (has_literal trail) (slot_set (words_have l.pending.numbers) t.slots.items) code
     (slot_flags t.kept.items t.slots.items)

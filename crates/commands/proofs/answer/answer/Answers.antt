@@ -1,6 +1,6 @@
 use Rattle.std.proofs.Common.{refl, ap}
 use Rattle.requests.specs.Seen.{seen}
-use Rattle.input_files.specs.Named.{third_bytes}
+use Rattle.plan_tasks.specs.Named.{third_bytes}
 use Rattle.plan_endings.proofs.published.Stopped.{EndsAs-weaker}
 use Rattle.commands.proofs.Answered.{no_third, third_fits}
 use Rattle.commands.proofs.answer.answer.Goals as goal

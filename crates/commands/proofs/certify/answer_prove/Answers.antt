@@ -1,7 +1,7 @@
 use Rattle.std.proofs.Common.{refl, ap, subst, Err}
 use Rattle.gt_core.specs.Task.{Task}
-use Rattle.certificates.specs.Known.{HasTooMany}
-use Rattle.certificates.specs.Proved.{Proves}
+use Rattle.commands.specs.Known.{HasTooMany}
+use Rattle.commands.specs.Proved.{Proves}
 use Rattle.commands.specs.Tasks.{grounded}
 use Rattle.commands.specs.Answers.{AnswersProve, not_run, run}
 use Rattle.commands.proofs.Answered.{stop_handed}

@@ -1,7 +1,7 @@
 use Rattle.std.proofs.Common.{refl, ap, subst, Err}
 use Rattle.gt_core.specs.Task.{Task}
-use Rattle.certificates.specs.Known.{HasTooMany}
-use Rattle.certificates.specs.Judged.{Judges}
+use Rattle.commands.specs.Known.{HasTooMany}
+use Rattle.commands.specs.Judged.{Judges}
 use Rattle.commands.specs.Tasks.{OnceRead, TellsOver, read}
 use Rattle.commands.specs.Answers.{RefusesProof, AnswersVerify, unfit, beyond, spelled, not_checked, checked}
 use Rattle.plan_endings.proofs.published.Stopped.{EndsAs-handed}

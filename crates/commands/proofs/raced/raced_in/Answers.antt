@@ -1,6 +1,6 @@
 use Rattle.std.proofs.Common.{◌≡◌, ◌∙◌, ℕ, Err, refl, ap}
 use Rattle.step_laws.specs.Form.{OrderedTask}
-use Rattle.certificates.specs.Known.{form_of}
+use Rattle.commands.specs.Known.{form_of}
 use Rattle.commands.proofs.published.RaceEnds.{comes_to, too_large_to}
 use Rattle.commands.proofs.raced.raced_in.Goals as goal
 

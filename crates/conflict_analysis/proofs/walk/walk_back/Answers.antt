@@ -18,7 +18,7 @@ returns-then-stops-clause-walked c =
     let i = c.walking.invariant in
     let w = c.args.trail.now in
     let stop = stop_at w.entries (literals (seen w c.walking.resolvent)) c.args.level c.count.result true c.requires.level (c.count.ensures ∙ i.over.over.counted) (sym c.stops.ensures ∙ c.if-stops.true) in
-    i.walked ∙ walk_stops c.args.store.now w.entries w.variables (words_have c.walking.resolvent.words) c.walking.index c.in-Some.position (reverse c.walking.hints.items) c.entries-entries.ensures.below c.entries-entries.ensures.apart c.in-Some.ensures i.within stop
+    i.walked ∙ walk_stops c.args.store.now.clauses w.entries w.variables (words_have c.walking.resolvent.words) c.walking.index c.in-Some.position (reverse c.walking.hints.items) c.entries-entries.ensures.below c.entries-entries.ensures.apart c.in-Some.ensures i.within stop
 
 -- it goes on
 goes : (c : Else-stops)
@@ -31,7 +31,7 @@ pub returns-in-None-clause-walked : goal.returns-in-None-clause-walked
 returns-in-None-clause-walked c =
     let i = c.walking.invariant in
     let e = c.entries-entries.ensures in
-    i.walked ∙ walk_at c.args.store.now c.args.trail.now.entries c.entries-entries.result.now c.args.trail.now.variables (words_have c.walking.resolvent.words) c.walking.index
+    i.walked ∙ walk_at c.args.store.now.clauses c.args.trail.now.entries c.entries-entries.result.now c.args.trail.now.variables (words_have c.walking.resolvent.words) c.walking.index
     c.in-Some.position c.index-entries-position.result (reverse c.walking.hints.items) false None e.below e.apart c.in-Some.ensures i.within e.value c.index-entries-position.is
     (goes (goal.at.returns-in-None-clause-walked c).Else-stops) c.in-None.is
 
@@ -45,18 +45,18 @@ walking-preserved c =
     let hints = reverse c.walking.hints.items in
     let clause = literals (seen w c.walking.resolvent) in
     let e = c.entries-entries.ensures in
-    let here = walk_at c.args.store.now w.entries c.entries-entries.result.now w.variables (words_have c.walking.resolvent.words) c.walking.index p a hints false (Some r)
+    let here = walk_at c.args.store.now.clauses w.entries c.entries-entries.result.now w.variables (words_have c.walking.resolvent.words) c.walking.index p a hints false (Some r)
     e.below e.apart c.in-Some.ensures i.within e.value c.index-entries-position.is (goes (goal.at.walking-preserved c).Else-stops) c.in-Some-reason.is in
-    let new : resolvent clause a.literal (clause_at c.args.store.now r) ≡ literals (seen w c.resolve.new.self) = sym (c.resolve.ensures.resolved ∙ ap (resolvent clause a.literal) (c.clause.ensures ∙ sym (unwrap_or-slice_get c.args.store.now r []))) in
+    let new : resolvent clause a.literal (clause_at c.args.store.now.clauses r) ≡ literals (seen w c.resolve.new.self) = sym (c.resolve.ensures.resolved ∙ ap (resolvent clause a.literal) (c.clause.ensures ∙ sym (unwrap_or-slice_get c.args.store.now.clauses r []))) in
     let more : r ∷ hints ≡ reverse c.push.new.self.items = sym (ap reverse c.in_ok-push-in-Some-reason.ensures.items ∙ reverse-append c.walking.hints.items (r ∷ [])) in
     record {
       within = omega (arith, i.within, c.in-Some.ensures.0);
       over = c.resolve.ensures.over;
-      walked = i.walked ∙ here ∙ ap (λ (d : Learned). walk c.args.store.now w.entries (reverse (take p w.entries)) d) (learned_same (resolvent clause a.literal (clause_at c.args.store.now r)) (literals (seen w c.resolve.new.self)) (r ∷ hints) (reverse c.push.new.self.items) new more);
+      walked = i.walked ∙ here ∙ ap (λ (d : Learned). walk c.args.store.now.clauses w.entries (reverse (take p w.entries)) d) (learned_same (resolvent clause a.literal (clause_at c.args.store.now.clauses r)) (literals (seen w c.resolve.new.self)) (r ∷ hints) (reverse c.push.new.self.items) new more);
     }
 
 pub returns-clause-walked : goal.returns-clause-walked
 returns-clause-walked c =
     let i = c.walking.invariant in
     let w = c.args.trail.now in
-    i.walked ∙ walk_end c.args.store.now w.entries w.variables (words_have c.walking.resolvent.words) c.walking.index (reverse c.walking.hints.items) c.entries-entries.ensures.below c.entries-entries.ensures.apart c.in_default.ensures i.within
+    i.walked ∙ walk_end c.args.store.now.clauses w.entries w.variables (words_have c.walking.resolvent.words) c.walking.index (reverse c.walking.hints.items) c.entries-entries.ensures.below c.entries-entries.ensures.apart c.in_default.ensures i.within

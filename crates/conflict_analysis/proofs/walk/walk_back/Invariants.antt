@@ -8,7 +8,7 @@ abbrev pub invariant-walking : goal.invariant-walking
 invariant-walking l = record {
   within : l.index ≤ length l.trail.entries;
   over : AreMarks l.trail l.resolvent;
-  walked : walk l.store l.trail.entries (reverse l.trail.entries) (record { clause = literals (seen l.trail l.initial.resolvent); hints = [] }) ≡ walk l.store l.trail.entries (reverse (take l.index l.trail.entries)) (record { clause = literals (seen l.trail l.resolvent); hints = reverse l.hints.items });
+  walked : walk l.store.clauses l.trail.entries (reverse l.trail.entries) (record { clause = literals (seen l.trail l.initial.resolvent); hints = [] }) ≡ walk l.store.clauses l.trail.entries (reverse (take l.index l.trail.entries)) (record { clause = literals (seen l.trail l.resolvent); hints = reverse l.hints.items });
 }
 
 abbrev pub decreases-walking : goal.decreases-walking

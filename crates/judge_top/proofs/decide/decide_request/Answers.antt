@@ -1,9 +1,9 @@
 use Rattle.std.proofs.Common.{◌∷◌, [], List, ℕ, subst}
 use Rattle.plan_endings.specs.declared.ending.File.TheVariants.{Proof}
-use Rattle.input_files.specs.Limits.{file_in}
-use Rattle.input_files.specs.Named.{third_bytes, bytes_of}
-use Rattle.input_files.specs.Files.{NotesAmong}
-use Rattle.input_files.proofs.published.Taking.{taken_short}
+use Rattle.plan_tasks.specs.Limits.{file_in}
+use Rattle.plan_tasks.specs.Named.{third_bytes, bytes_of}
+use Rattle.plan_tasks.specs.Files.{NotesAmong}
+use Rattle.plan_tasks.proofs.published.Taking.{taken_short}
 use Rattle.judge_top.specs.Seen.{seen}
 use Rattle.judge_top.specs.Answers.{tape_run}
 use Rattle.judge_top.proofs.Deciding.{both_taken, stops_for, taken_for, two_named}

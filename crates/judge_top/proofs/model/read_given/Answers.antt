@@ -1,6 +1,6 @@
 use Rattle.std.proofs.Common.{◌≡◌, ◌∙◌, ℕ, take, ap, rules}
 use Rattle.pl_io.specs.Tape.{given_more}
-use Rattle.sat_text.specs.Values.{NoText}
+use Rattle.sat_text.specs.Values.{refused_by}
 use Rattle.judge_top.specs.Answers.{tape_run}
 use Rattle.judge_top.proofs.Given.{read_early}
 use Rattle.judge_top.proofs.model.read_given.Goals as goal
@@ -16,4 +16,4 @@ pub returns-in-Some-clause-given : goal.returns-in-Some-clause-given
 returns-in-Some-clause-given g c =
     let piece = take c.in-Ok.count c.take.new.into in
     let told = rw c.in-Some.is at (c.in_ok-refused-in-Ok.ensures.refused c.args.variables (g.T.Tape.given c.reading.tape).bytes c.reading.invariant.read) in
-    read_early (g.T.Tape.given c.reading.tape) (g.T.Tape.given c.take.new.self) c.reading.invariant.goes piece c.in-Ok.ensures.given (search rules) c.args.variables (NoText c.in-Some.at) told
+    read_early (g.T.Tape.given c.reading.tape) (g.T.Tape.given c.take.new.self) c.reading.invariant.goes piece c.in-Ok.ensures.given (search rules) c.args.variables (refused_by c.in-Some.refused) told

@@ -1,6 +1,6 @@
 use Rattle.std.proofs.Common.{◌∙◌, ℕ, List, Bool, sym, ap, subst}
 use Rattle.clause_base.specs.Formula.{Cnf}
-use Rattle.sat_text.specs.Values.{Values, NoText}
+use Rattle.sat_text.specs.Values.{Values, refused_by}
 use Rattle.sat_text.proofs.published.ValueReading.{values_are}
 use Rattle.judge_top.specs.Answers.{tape_run, IsReadAs}
 use Rattle.judge_top.proofs.Given.{itself}
@@ -12,10 +12,10 @@ told_values-requires-clause-long g c =
     let read = subst (λ (n : ℕ). IsReadAs n given (Values c.in-Values.reader.table.truths)) c.variables.ensures.value (rw c.in-Values.is at c.in_ok-read_given.ensures.given) in
     values_are c.in_ok-formula.formula.variables given.bytes c.as_slice.result.now (read.is given.bytes (itself given) ∙ ap Values (sym c.as_slice.ensures))
 
-pub returns-in-NoText-clause-told : goal.returns-in-NoText-clause-told
-returns-in-NoText-clause-told g c =
+pub returns-in-Refused-clause-told : goal.returns-in-Refused-clause-told
+returns-in-Refused-clause-told g c =
     let given = g.T.Tape.given c.read_given.new.tape in
-    subst (λ (n : ℕ). IsReadAs n given (NoText c.in-NoText.at)) (c.variables.ensures.value ∙ ap (λ (x : Cnf). x.variables) c.in_ok-formula.ensures.formula) (rw c.in-NoText.is at c.in_ok-read_given.ensures.given)
+    subst (λ (n : ℕ). IsReadAs n given (refused_by c.in-Refused.refused)) (c.variables.ensures.value ∙ ap (λ (x : Cnf). x.variables) c.in_ok-formula.ensures.formula) (rw c.in-Refused.is at c.in_ok-read_given.ensures.given)
 
 pub returns-clause-told : goal.returns-clause-told
 returns-clause-told g c =

@@ -1,4 +1,4 @@
-use Rattle.std.proofs.Common.{◌≡◌, ◌∙◌, ℕ, length, sym, arith}
+use Rattle.std.proofs.Common.{◌∙◌, sym, arith}
 use Rattle.lrat_judge.proofs.Counted.{empty_here, empty_past}
 use Rattle.lrat_judge.proofs.judge.has_empty.Goals as goal
 

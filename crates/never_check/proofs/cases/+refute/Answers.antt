@@ -12,9 +12,9 @@ use Rattle.never_check.specs.Trail.{Reached}
 use Rattle.never_check.specs.Follow.{AreBelow}
 use Rattle.never_check.specs.Refuted.{AreContradicted, IsWayContradicted}
 use Rattle.never_check.specs.Pairs.{IsReady}
-use Rattle.never_check.proofs.Grown.{when_true, when_false, either_way}
-use Rattle.never_check.proofs.Casing.{leaf_true, leaf_false, way_clash, way_true, way_false, open_true, open_stays, open_made, conditions_push, conditions_at}
-use Rattle.never_check.proofs.Pairing.{among_any, literal_below, none_below, ready_next, ready_joined, joins_none, way_same, at_place, at_end, rest_same}
+use Rattle.never_check.proofs.Grown.{front_then, when_true, when_false, either_way}
+use Rattle.never_check.proofs.Casing.{settled_clash, settled_told, leaf_true, leaf_false, way_clash, way_true, way_false, open_true, open_stays, open_made, conditions_push, conditions_at}
+use Rattle.never_check.proofs.Pairing.{ready_settled, among_any, literal_below, none_below, ready_next, ready_joined, joins_none, way_same, at_place, at_end, rest_same}
 use Rattle.never_check.proofs.cases.+refute.Goals as goal
 
 pub refute_assumed-refute_from-requires : goal.refute_assumed-refute_from-requires
@@ -124,8 +124,8 @@ refute_conditions-loop-effect-preserved t c =
           (conditions_push (λ d. IsWayContradicted pair.rules.now more c.args.trail.now.literals qs (record { literals = d; clauses = if_made pair.act.now l })) l (take c.loop-effect.effect-index items) c.effect-item.result c.loop-effect.invariant.all (λ s. one));
     }
 
-pub refute_from-refute_way-requires : goal.refute_from-refute_way-requires
-refute_from-refute_way-requires t c =
+pub refute_ways-refute_way-requires : goal.refute_ways-refute_way-requires
+refute_ways-refute_way-requires t c =
     let pair = c.args.pair.now in
     let le = c.requires.place in
     let ne = c.if-place-pair.false in
@@ -135,8 +135,8 @@ refute_from-refute_way-requires t c =
     let none = subst (λ (k : ℕ). AllByRecursion (AreBelow (2 * k)) (none_makes pair.act.now c.opposite.result)) (sym facts) (none_below pair.rules.now.known.now.facts c.opposite.result pair.act.now.effects c.requires.pair.fits.effects) in
     (search rules, (c.requires.pair, (lt, ((omega (arith, lit, facts), tt), (subst (λ (cs : List (List ℕ)). AllByRecursion (AreBelow (2 * c.args.trail.now.facts)) cs) (sym c.in_ok-none.ensures) none, c.requires.ready)))))
 
-pub refute_from-returns-clause-told : goal.refute_from-returns-clause-told
-refute_from-returns-clause-told t c =
+pub refute_ways-returns-clause-told : goal.refute_ways-returns-clause-told
+refute_ways-returns-clause-told t c =
     let pair = c.args.pair.now in
     let x = pair.act.now in
     let rs = pair.rules.now in
@@ -159,8 +159,8 @@ refute_from-returns-clause-told t c =
     (λ nay. open_made rs more tr x l rest (action_surely_makes x (opposite l)) unsure (λ all. nay (subst (λ (ls : List ℕ). AllByRecursion (λ d. IsWayContradicted rs more ls (cases_of x rest) (record { literals = d; clauses = if_made x (opposite l) })) (conditions_of x (opposite l))) (sym kept) all)))
     c.in_ok-refuted-3.ensures.told)
 
-pub refute_from-returns-then-not-branch-clause-told : goal.refute_from-returns-then-not-branch-clause-told
-refute_from-returns-then-not-branch-clause-told t c =
+pub refute_ways-returns-then-not-branch-clause-told : goal.refute_ways-returns-then-not-branch-clause-told
+refute_ways-returns-then-not-branch-clause-told t c =
     let pair = c.args.pair.now in
     let x = pair.act.now in
     let rs = pair.rules.now in
@@ -178,8 +178,8 @@ refute_from-returns-then-not-branch-clause-told t c =
     let gone = when_false c.in_ok-refute_way.field-0 _ c.if-not-branch.true way in
     λ all. open_stays rs more tr x l rest (action_surely_makes x (opposite l)) unsure gone (subst (λ (ls : List ℕ). AreContradicted rs more tr (cases_of x ls)) (at_place pair.clause.now c.args.place lt) all)
 
-pub refute_from-returns-then-place-pair-clause-told : goal.refute_from-returns-then-place-pair-clause-told
-refute_from-returns-then-place-pair-clause-told t c =
+pub refute_ways-returns-then-place-pair-clause-told : goal.refute_ways-returns-then-place-pair-clause-told
+refute_ways-returns-then-place-pair-clause-told t c =
     let pair = c.args.pair.now in
     let tr = c.args.trail.now.literals in
     rest_same pair.rules.now c.args.held.now.more.now tr pair.act.now (drop c.args.place pair.clause.now) [] c.in_ok-refuted.refuted (at_end pair.clause.now c.args.place c.if-place-pair.true)
@@ -191,3 +191,23 @@ refute_made-refute_way-requires-2 t c =
     let facts = c.requires.ready.facts in
     let none = subst (λ (k : ℕ). AllByRecursion (AreBelow (2 * k)) c.args.none.now) (sym facts) (subst (λ (cs : List (List ℕ)). AllByRecursion (AreBelow (2 * pair.rules.now.known.now.facts)) cs) (sym c.requires.none) (none_below pair.rules.now.known.now.facts _ pair.act.now.effects c.requires.pair.fits.effects)) in
     (search rules, (c.requires.pair, (c.requires.place, (c.requires.cond, (none, c.requires.ready)))))
+
+pub refute_from-returns-then-branch-clause-told : goal.refute_from-returns-then-branch-clause-told
+refute_from-returns-then-branch-clause-told t c =
+    let pair = c.args.pair.now in
+    settled_clash pair.rules.now c.args.held.now.more.now c.args.trail.now.literals (when_true c.in_ok-settle.field-0 _ c.if-branch.true c.in_ok-settle.ensures.told) (cases_of pair.act.now (drop c.args.place pair.clause.now))
+
+pub refute_from-refute_ways-requires-2 : goal.refute_from-refute_ways-requires-2
+refute_from-refute_ways-requires-2 t c =
+    let pair = c.args.pair.now in
+    let told = when_false c.in_ok-settle.field-0 _ c.if-branch.false c.in_ok-settle.ensures.told in
+    (search rules, (c.requires.pair, (c.requires.place, ready_settled pair c.args.held.now c.args.trail.now c.settle.new.trail c.requires.ready c.in_ok-settle.ensures.facts told.0.front told.0.apart _ refl c.len.ensures.is told.1)))
+
+pub refute_from-returns-clause-front : goal.refute_from-returns-clause-front
+refute_from-returns-clause-front t c = front_then c.args.trail.now.literals c.settle.new.trail.literals c.refute_ways-2.new.trail.literals c.in_ok-settle.ensures.front c.in_ok-refuted-2.ensures.front
+
+pub refute_from-returns-clause-told : goal.refute_from-returns-clause-told
+refute_from-returns-clause-told t c =
+    let pair = c.args.pair.now in
+    let told = when_false c.in_ok-settle.field-0 _ c.if-branch.false c.in_ok-settle.ensures.told in
+    settled_told pair.rules.now c.args.held.now.more.now c.args.trail.now.literals c.settle.new.trail.literals told.0 (cases_of pair.act.now (drop c.args.place pair.clause.now)) c.in_ok-refuted-2.refuted c.in_ok-refuted-2.ensures.told

@@ -13,10 +13,13 @@ abbrev pub decreases-refute_conditions : goal.decreases-refute_conditions
 decreases-refute_conditions l = 8 * (length l.pair.now.clause.now - l.place) + 4
 
 abbrev pub decreases-refute_from : goal.decreases-refute_from
-decreases-refute_from l = 8 * (length l.pair.now.clause.now - l.place) + 5
+decreases-refute_from l = 8 * (length l.pair.now.clause.now - l.place) + 6
 
 abbrev pub decreases-refute_made : goal.decreases-refute_made
 decreases-refute_made l = 8 * (length l.pair.now.clause.now - l.place) + 3
+
+abbrev pub decreases-refute_ways : goal.decreases-refute_ways
+decreases-refute_ways l = 8 * (length l.pair.now.clause.now - l.place) + 5
 
 abbrev pub decreases-refute_way : goal.decreases-refute_way
 decreases-refute_way l = 8 * (length l.pair.now.clause.now - l.place) + 2

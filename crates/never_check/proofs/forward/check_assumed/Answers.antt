@@ -3,7 +3,7 @@ use Rattle.gt_core.specs.Literal.{is_in}
 use Rattle.never_check.specs.Follow.{HasAll, IsGrown, IsContradiction}
 use Rattle.never_check.specs.Rules.{ObeysWith, AreFollowed}
 use Rattle.never_check.proofs.Grown.{when_true, when_false}
-use Rattle.never_check.proofs.Forwarding.{never_runs, now_assumed}
+use Rattle.never_check.proofs.Forwarding.{never_runs, now_least}
 use Rattle.never_check.proofs.forward.check_assumed.Goals as goal
 
 pub returns-then-branch-clause-told : goal.returns-then-branch-clause-told
@@ -16,5 +16,5 @@ pub check_effects-requires-clause-assumed : goal.check_effects-requires-clause-a
 check_effects-requires-clause-assumed c =
     let rules = c.args.rules.now in
     let new = c.refutes.new.trail.literals in
-    now_assumed rules c.args.trail.now c.requires.base c.args.act.now c.refutes.new.trail c.in_ok-refutes.ensures.facts
+    now_least rules c.args.trail.now c.requires.base c.args.act.now.precondition c.refutes.new.trail c.in_ok-refutes.ensures.facts
     (subst (λ (ls : List ℕ). IsGrown (ObeysWith rules ls) c.args.trail.now.literals new × AreFollowed rules new new × HasAll (is_in new) ls) c.pre.ensures (when_false c.in_ok-refutes.field-0 _ c.if-branch.false c.in_ok-refutes.ensures.told))

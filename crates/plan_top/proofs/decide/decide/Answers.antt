@@ -1,5 +1,5 @@
 use Rattle.std.proofs.Common.{sym, refl, map, string_bytes}
-use Rattle.input_files.proofs.published.Hearing.{handed_none}
+use Rattle.plan_tasks.proofs.published.Hearing.{handed_none}
 use Rattle.plan_top.specs.Causes.{no_request}
 use Rattle.requests.specs.Seen.{seen}
 use Rattle.plan_top.proofs.Told.{one_unless}

@@ -22,7 +22,7 @@ answer-requires-clause-ask c =
     let a = c.taking.invariant.asks in
     let inside = a.within c.in-Some.number c.in-Some.ensures.0 in
     let read = get_or_read c.taking.pending.asks.items c.in-Some.number c.index-ask.result.now (omega (arith, inside, a.long)) c.index-ask.ensures 0 in
-    subst (λ (x : ℕ). IsAsk (has_literal c.args.assignment.now.trail) (clause_at c.args.tables.now.store c.in-Some.number) x) (sym read) (a.are c.in-Some.number c.in-Some.ensures.0)
+    subst (λ (x : ℕ). IsAsk (has_literal c.args.assignment.now.trail) (clause_at c.args.tables.now.store.clauses c.in-Some.number) x) (sym read) (a.are c.in-Some.number c.in-Some.ensures.0)
 
 pub taking-preserved : goal.taking-preserved
 taking-preserved c =
@@ -31,7 +31,7 @@ taking-preserved c =
     let was = words_have c.taking.pending.numbers in
     let is = words_have c.remove_least.new.self in
     record {
-      asks = asks_fewer c.args.tables.now.store c.args.assignment.now.trail c.taking.pending c.remove_least.new.self i.asks
+      asks = asks_fewer c.args.tables.now.store.clauses c.args.assignment.now.trail c.taking.pending c.remove_least.new.self i.asks
           (cleaned_fewer was is c.in-Some.number has) (omega (arith, c.remove_least.ensures.room));
       stay = cleaned_complete (λ k. pending_in c.args.tables.now c.args.assignment.now.trail k && words_have c.args.pending.now.numbers k) was is
           c.in-Some.number (ap (λ (b : Bool). b && words_have c.args.pending.now.numbers c.in-Some.number) c.in-None-answer.ensures) i.stay has;
@@ -51,12 +51,12 @@ pub returns-in-Some-answer-clause-first : goal.returns-in-Some-answer-clause-fir
 returns-in-Some-answer-clause-first c complete =
     let t = c.args.tables.now in
     let trail = c.args.assignment.now.trail in
-    first_some t.store t.kept.items trail c.taking.pending c.in-Some.number c.in-Some-answer.event c.requires.tables.kept
+    first_some t.store.clauses t.kept.items trail c.taking.pending c.in-Some.number c.in-Some-answer.event c.requires.tables.kept
     (stay_complete (pending_in t trail) c.args.pending.now c.taking.pending complete c.taking.invariant.stay) c.in-Some.ensures c.in-Some-answer.ensures
 
 pub returns-in-None-clause-first : goal.returns-in-None-clause-first
 returns-in-None-clause-first c complete =
     let t = c.args.tables.now in
     let trail = c.args.assignment.now.trail in
-    first_none t.store t.kept.items trail c.taking.pending
+    first_none t.store.clauses t.kept.items trail c.taking.pending
     (stay_complete (pending_in t trail) c.args.pending.now c.taking.pending complete c.taking.invariant.stay) c.in-None.ensures

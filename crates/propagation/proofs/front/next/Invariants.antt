@@ -7,7 +7,7 @@ use Rattle.propagation.proofs.front.next.Given as goal
 
 abbrev pub invariant-taking : goal.invariant-taking
 invariant-taking l = record {
-  asks : HasAsks l.tables.store l.assignment.trail l.pending;
+  asks : HasAsks l.tables.store.clauses l.assignment.trail l.pending;
   stay : StayWhere (pending_in l.tables l.assignment.trail) l.initial.pending l.pending;
   none : (k : ℕ) → k < l.low → words_have l.pending.numbers k ≡ false;
   low : l.low ≤ 4294967296;

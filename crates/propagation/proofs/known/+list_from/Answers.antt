@@ -14,8 +14,8 @@ use Rattle.propagation.proofs.known.+list_from.Goals as goal
 pub list_from-known-requires : goal.list_from-known-requires
 list_from-known-requires t c =
     let first = c.next.new.pending in
-    let less : HasAsks c.args.tables.now.store c.args.assignment.now.trail (record first { numbers = c.remove_least.new.self }) =
-    asks_fewer c.args.tables.now.store c.args.assignment.now.trail first c.remove_least.new.self c.next.ensures.asks
+    let less : HasAsks c.args.tables.now.store.clauses c.args.assignment.now.trail (record first { numbers = c.remove_least.new.self }) =
+    asks_fewer c.args.tables.now.store.clauses c.args.assignment.now.trail first c.remove_least.new.self c.next.ensures.asks
     (cleaned_fewer (words_have first.numbers) (words_have c.remove_least.new.self) c.in-Some.number (c.remove_least.ensures.has c.in-Some.number c.in-Some.ensures))
     (omega (arith, c.remove_least.ensures.room)) in
     let read : AreRead c.args.tables.now c.args.assignment.now (record first { numbers = c.remove_least.new.self }) =
@@ -36,9 +36,9 @@ returns-else-place-eq-FEW-clause-asks t c =
     let number = c.in-Some.number in
     let inside = a.within number c.in-Some.ensures.0 in
     let read = get_or_read c.next.new.pending.asks.items number c.index-ask.result.now (omega (arith, inside, a.long)) c.index-ask.ensures 0 in
-    asks_put c.args.tables.now.store c.args.assignment.now.trail number c.index-ask.result.now c.list_from-known.new.pending c.put.new.self c.list_from-known.ensures.asks
+    asks_put c.args.tables.now.store.clauses c.args.assignment.now.trail number c.index-ask.result.now c.list_from-known.new.pending c.put.new.self c.list_from-known.ensures.asks
     c.put.ensures inside
-    (subst (IsAsk (has_literal c.args.assignment.now.trail) (clause_at c.args.tables.now.store number)) (sym read) (a.are number c.in-Some.ensures.0))
+    (subst (IsAsk (has_literal c.args.assignment.now.trail) (clause_at c.args.tables.now.store.clauses number)) (sym read) (a.are number c.in-Some.ensures.0))
 
 pub returns-else-place-eq-FEW-clause-stay : goal.returns-else-place-eq-FEW-clause-stay
 returns-else-place-eq-FEW-clause-stay t c =

@@ -18,7 +18,7 @@ loop-number-preserved c =
     let at = c.loop-number.number-index in
     let number = get_or c.args.listed.now at 0 in
     let inside : pending_in t trail number ≡ true → number < length t.kept.items = λ e. kept_in t.kept.items number
-    (is_pending (has_literal trail) (clause_at t.store number)) (sym (pending_at t.store t.kept.items trail number) ∙ e) in
+    (is_pending (has_literal trail) (clause_at t.store.clauses number)) (sym (pending_at t.store.clauses t.kept.items trail number) ∙ e) in
     elim c.if-number-len.branch [
       | then-number-len w ↦
           rw (w.pending-is) (record {

@@ -6,7 +6,7 @@ use Rattle.propagation.proofs.known.scan_listed.Given as goal
 
 abbrev pub invariant-loop-number : goal.invariant-loop-number
 invariant-loop-number l = record {
-  asks : HasAsks l.tables.store l.assignment.trail l.pending;
+  asks : HasAsks l.tables.store.clauses l.assignment.trail l.pending;
   own : (p : ℕ) → p < l.number-index → pending_in l.tables l.assignment.trail (slice_index l.listed p) ≡ true
       → words_have l.pending.numbers (slice_index l.listed p) ≡ true;
 }

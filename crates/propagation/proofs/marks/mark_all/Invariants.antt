@@ -11,5 +11,5 @@ invariant-loop-place l = record {
   in_set : (i : ℕ) → i < l.place → has_literal l.assignment.trail (pair_in l.pairs i).other ≡ false
       → words_have l.pending.numbers (pair_in l.pairs i).number ≡ true;
   grows : Grows (words_have l.initial.pending.numbers) (words_have l.pending.numbers);
-  asks : HasAsks l.store l.assignment.trail l.pending;
+  asks : HasAsks l.store.clauses l.assignment.trail l.pending;
 }

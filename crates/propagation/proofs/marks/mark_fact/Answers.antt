@@ -10,7 +10,7 @@ pub next-beginning-requires : goal.next-beginning-requires
 next-beginning-requires c = c.requires.origin
 
 pub mark_list-requires-clause-exact : goal.mark_list-requires-clause-exact
-mark_list-requires-clause-exact c = subst (ArePairsOf c.args.store.now c.args.falsified) (sym c.last-ending.ensures) c.requires.listed.last
+mark_list-requires-clause-exact c = subst (ArePairsOf c.args.store.now.clauses c.args.falsified) (sym c.last-ending.ensures) c.requires.listed.last
 
 pub mark_list-requires-clause-fit : goal.mark_list-requires-clause-fit
 mark_list-requires-clause-fit c = c.requires.fit
@@ -19,10 +19,10 @@ pub mark_list-requires-2-clause-fit : goal.mark_list-requires-2-clause-fit
 mark_list-requires-2-clause-fit c = c.requires.fit
 
 pub mark_list-requires-2-clause-exact : goal.mark_list-requires-2-clause-exact
-mark_list-requires-2-clause-exact c = subst (ArePairsOf c.args.store.now c.args.falsified) (sym c.next-beginning.ensures) c.requires.listed.next
+mark_list-requires-2-clause-exact c = subst (ArePairsOf c.args.store.now.clauses c.args.falsified) (sym c.next-beginning.ensures) c.requires.listed.next
 
 pub mark_list-requires-3-clause-exact : goal.mark_list-requires-3-clause-exact
-mark_list-requires-3-clause-exact c = subst (ArePairsOf c.args.store.now c.args.falsified) (sym c.time-same.ensures) c.requires.listed.time
+mark_list-requires-3-clause-exact c = subst (ArePairsOf c.args.store.now.clauses c.args.falsified) (sym c.time-same.ensures) c.requires.listed.time
 
 pub time-same-requires : goal.time-same-requires
 time-same-requires c = c.requires.origin

@@ -10,10 +10,10 @@ use Rattle.propagation.proofs.marks.mark_pairs.Goals as goal
 use Rattle.propagation.proofs.marks.mark_pairs.Goals.{After-lists-lists, After-after}
 
 parts : (c : After-lists-lists)
-    → AreFive (IsPairOf c.args.store.now c.args.falsified) c.lists-lists.result.told c.lists-lists.result.last c.lists-lists.result.next c.lists-lists.result.time c.lists-lists.result.after
+    → AreFive (IsPairOf c.args.store.now.clauses c.args.falsified) c.lists-lists.result.told c.lists-lists.result.last c.lists-lists.result.next c.lists-lists.result.time c.lists-lists.result.after
 parts c =
-    five_of_each (IsPairOf c.args.store.now c.args.falsified) c.lists-lists.result.told c.lists-lists.result.last c.lists-lists.result.next c.lists-lists.result.time c.lists-lists.result.after
-    (subst (λ (xs : List Pair). EachPair (IsPairOf c.args.store.now c.args.falsified) xs) c.lists-lists.ensures c.requires.exact)
+    five_of_each (IsPairOf c.args.store.now.clauses c.args.falsified) c.lists-lists.result.told c.lists-lists.result.last c.lists-lists.result.next c.lists-lists.result.time c.lists-lists.result.after
+    (subst (λ (xs : List Pair). EachPair (IsPairOf c.args.store.now.clauses c.args.falsified) xs) c.lists-lists.ensures c.requires.exact)
 
 -- a list that is read
 at_list : (store : List (List ℕ)) (falsified : ℕ) {xs ys : List Pair} → xs ≡ ys → EachPair (IsPairOf store falsified) ys
@@ -21,7 +21,7 @@ at_list : (store : List (List ℕ)) (falsified : ℕ) {xs ys : List Pair} → xs
 at_list store falsified e h = subst (λ (ps : List Pair). EachPair (IsPairOf store falsified) ps) (sym e) h
 
 pub mark_list-requires-clause-exact : goal.mark_list-requires-clause-exact
-mark_list-requires-clause-exact c = at_list c.args.store.now c.args.falsified c.told.ensures (parts (goal.at.mark_list-requires-clause-exact c).After-lists-lists).first
+mark_list-requires-clause-exact c = at_list c.args.store.now.clauses c.args.falsified c.told.ensures (parts (goal.at.mark_list-requires-clause-exact c).After-lists-lists).first
 
 pub mark_repeated-requires-clause-listed : goal.mark_repeated-requires-clause-listed
 mark_repeated-requires-clause-listed c =
@@ -29,7 +29,7 @@ mark_repeated-requires-clause-listed c =
     record { last = p.second; next = p.third; time = p.fourth }
 
 pub mark_all-requires-clause-exact : goal.mark_all-requires-clause-exact
-mark_all-requires-clause-exact c = at_list c.args.store.now c.args.falsified c.in-Some.ensures (parts (goal.at.mark_all-requires-clause-exact c).After-lists-lists).fifth
+mark_all-requires-clause-exact c = at_list c.args.store.now.clauses c.args.falsified c.in-Some.ensures (parts (goal.at.mark_all-requires-clause-exact c).After-lists-lists).fifth
 
 -- what is marked once the last list is
 marked : (c : After-after) (set : ℕ → Bool) → Grows (words_have c.mark_repeated.new.pending.numbers) set

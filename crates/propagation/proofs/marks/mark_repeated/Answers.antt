@@ -12,7 +12,7 @@ pub of_step-requires : goal.of_step-requires
 of_step-requires c = sym c.in-Step.ensures.is
 
 pub mark_list-requires-clause-exact : goal.mark_list-requires-clause-exact
-mark_list-requires-clause-exact c = subst (ArePairsOf c.args.store.now c.args.falsified) (sym c.of_step.ensures) c.requires.listed.next
+mark_list-requires-clause-exact c = subst (ArePairsOf c.args.store.now.clauses c.args.falsified) (sym c.of_step.ensures) c.requires.listed.next
 
 pub mark_list-requires-clause-fit : goal.mark_list-requires-clause-fit
 mark_list-requires-clause-fit c = c.requires.fit

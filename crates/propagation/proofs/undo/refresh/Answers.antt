@@ -13,8 +13,8 @@ use Rattle.propagation.proofs.Filters.{pending_at}
 use Rattle.propagation.proofs.undo.refresh.Goals as goal
 use Rattle.propagation.proofs.undo.refresh.Goals.{After-clear}
 
-cleared : (c : After-clear) → HasAsks c.args.tables.now.store c.args.assignment.now.trail c.clear.new.self
-cleared c = asks_cleared c.args.tables.now.store c.args.assignment.now.trail c.clear.new.self c.clear.ensures.none
+cleared : (c : After-clear) → HasAsks c.args.tables.now.store.clauses c.args.assignment.now.trail c.clear.new.self
+cleared c = asks_cleared c.args.tables.now.store.clauses c.args.assignment.now.trail c.clear.new.self c.clear.ensures.none
     (omega (arith, c.clear.ensures.room, c.requires.room)) (omega (arith, ap (λ (xs : List ℕ). length xs) c.clear.ensures.asks, c.requires.long))
 
 pub returns-then-is_quiet-clause-asks : goal.returns-then-is_quiet-clause-asks
@@ -53,5 +53,5 @@ loop-number-preserved c =
 pub returns-clause-complete : goal.returns-clause-complete
 returns-clause-complete c k p =
     let t = c.args.tables.now in
-    let inside = kept_in t.kept.items k (is_pending (has_literal c.args.assignment.now.trail) (clause_at t.store k)) (sym (pending_at t.store t.kept.items c.args.assignment.now.trail k) ∙ p) in
+    let inside = kept_in t.kept.items k (is_pending (has_literal c.args.assignment.now.trail) (clause_at t.store.clauses k)) (sym (pending_at t.store.clauses t.kept.items c.args.assignment.now.trail k) ∙ p) in
     c.loop-number.invariant.complete k (omega (arith, inside, c.loop-number-test.false, c.len-number-end.ensures)) p

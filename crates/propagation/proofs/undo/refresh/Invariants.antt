@@ -6,6 +6,6 @@ use Rattle.propagation.proofs.undo.refresh.Given as goal
 
 abbrev pub invariant-loop-number : goal.invariant-loop-number
 invariant-loop-number l = record {
-  asks : HasAsks l.tables.store l.assignment.trail l.pending;
+  asks : HasAsks l.tables.store.clauses l.assignment.trail l.pending;
   complete : (k : ℕ) → k < l.number → pending_in l.tables l.assignment.trail k ≡ true → words_have l.pending.numbers k ≡ true;
 }

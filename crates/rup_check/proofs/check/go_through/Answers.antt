@@ -9,9 +9,9 @@ use Rattle.proof_log.specs.Step.{told_by}
 use Rattle.proof_log.proofs.published.Turns.{turn, some_left}
 use Rattle.rup_check.proofs.check.go_through.Goals as goal
 
--- the hints as they are lent are those that were read
-told_next : (kind : Kind) (lent hints : List ℕ) (now rest : List Entry) → lent ≡ hints → now ≡ told_by kind hints ∷ rest → now ≡ told_by kind lent ∷ rest
-told_next kind lent hints now rest l n = n ∙ ap (λ (ns : List ℕ). told_by kind ns ∷ rest) (sym l)
+-- the literals and the hints as they are lent are those that were read
+told_next : (kind : Kind) (lits clause lent hints : List ℕ) (now rest : List Entry) → lits ≡ clause → lent ≡ hints → now ≡ told_by kind clause hints ∷ rest → now ≡ told_by kind lits lent ∷ rest
+told_next kind lits clause lent hints now rest c l n = n ∙ ap (λ (ns : List ℕ). told_by kind ns hints ∷ rest) (sym c) ∙ ap (λ (ns : List ℕ). told_by kind lits ns ∷ rest) (sym l)
 
 apart : (b : Bool) → b ≡ false → b ≡ true → ⊥
 apart b e f = cc
@@ -27,11 +27,11 @@ returns-then-not-branch-clause-rejected c = λ e told.
     let log = c.args.log.now in
     let n = c.loop-number.number in
     let same : n ≡ e = cc in
-    let entry = told_by c.in_ok-kind.kind c.deref.result.now in
+    let entry = told_by c.in_ok-kind.kind c.as_slice-clause.result.now c.deref.result.now in
     let within : n < length log = omega (arith, c.loop-number-test.true, c.len-number-end.ensures) in
     let answer =
     entry_at c.args.formula.now c.loop-number.checker.formula log c.loop-number.reader c.take_into.new.self n entry c.in_ok-take_step.field-0 c.loop-number.invariant.formula within
-    c.loop-number.invariant.left (told_next c.in_ok-kind.kind c.deref.result.now c.take_into.new.hints.items c.loop-number.reader c.take_into.new.self c.deref.ensures.value c.in_ok-kind.ensures.next) (c.in_ok-take_step.ensures.answer (take n log) c.loop-number.invariant.taken) in
+    c.loop-number.invariant.left (told_next c.in_ok-kind.kind c.as_slice-clause.result.now c.take_into.new.lits.items c.deref.result.now c.take_into.new.hints.items c.loop-number.reader c.take_into.new.self c.as_slice-clause.ensures.value c.deref.ensures.value c.in_ok-kind.ensures.next) (c.in_ok-take_step.ensures.answer (take n log) c.loop-number.invariant.taken) in
     subst (λ (m : ℕ). IsFirstUnderived c.args.formula.now.variables c.args.formula.now.clauses log m) same (record {
       in_range = within;
       earlier = c.loop-number.invariant.derived;
@@ -42,12 +42,12 @@ pub loop-number-preserved : goal.loop-number-preserved
 loop-number-preserved c =
     let log = c.args.log.now in
     let n = c.loop-number.number in
-    let entry = told_by c.in_ok-kind.kind c.deref.result.now in
+    let entry = told_by c.in_ok-kind.kind c.as_slice-clause.result.now c.deref.result.now in
     let within : n < length log = omega (arith, c.loop-number-test.true, c.len-number-end.ensures) in
-    let next = turn log c.loop-number.reader c.take_into.new.self n entry within c.loop-number.invariant.left (told_next c.in_ok-kind.kind c.deref.result.now c.take_into.new.hints.items c.loop-number.reader c.take_into.new.self c.deref.ensures.value c.in_ok-kind.ensures.next) in
+    let next = turn log c.loop-number.reader c.take_into.new.self n entry within c.loop-number.invariant.left (told_next c.in_ok-kind.kind c.as_slice-clause.result.now c.take_into.new.lits.items c.deref.result.now c.take_into.new.hints.items c.loop-number.reader c.take_into.new.self c.as_slice-clause.ensures.value c.deref.ensures.value c.in_ok-kind.ensures.next) in
     let answer =
     entry_at c.args.formula.now c.loop-number.checker.formula log c.loop-number.reader c.take_into.new.self n entry c.in_ok-take_step.field-0 c.loop-number.invariant.formula within
-    c.loop-number.invariant.left (told_next c.in_ok-kind.kind c.deref.result.now c.take_into.new.hints.items c.loop-number.reader c.take_into.new.self c.deref.ensures.value c.in_ok-kind.ensures.next) (c.in_ok-take_step.ensures.answer (take n log) c.loop-number.invariant.taken) in
+    c.loop-number.invariant.left (told_next c.in_ok-kind.kind c.as_slice-clause.result.now c.take_into.new.lits.items c.deref.result.now c.take_into.new.hints.items c.loop-number.reader c.take_into.new.self c.as_slice-clause.ensures.value c.deref.ensures.value c.in_ok-kind.ensures.next) (c.in_ok-take_step.ensures.answer (take n log) c.loop-number.invariant.taken) in
     record {
       derived = derived_more c.args.formula.now.variables c.args.formula.now.clauses log n c.loop-number.invariant.derived (answer ∙ c.if-not-branch.false);
       formula = c.in_ok-take_step.ensures.formula ∙ c.loop-number.invariant.formula;
@@ -60,11 +60,11 @@ pub returns-then-not-branch-clause-accepted : goal.returns-then-not-branch-claus
 returns-then-not-branch-clause-accepted c = λ refuted.
     let log = c.args.log.now in
     let n = c.loop-number.number in
-    let entry = told_by c.in_ok-kind.kind c.deref.result.now in
+    let entry = told_by c.in_ok-kind.kind c.as_slice-clause.result.now c.deref.result.now in
     let within : n < length log = omega (arith, c.loop-number-test.true, c.len-number-end.ensures) in
     let answer =
     entry_at c.args.formula.now c.loop-number.checker.formula log c.loop-number.reader c.take_into.new.self n entry c.in_ok-take_step.field-0 c.loop-number.invariant.formula within
-    c.loop-number.invariant.left (told_next c.in_ok-kind.kind c.deref.result.now c.take_into.new.hints.items c.loop-number.reader c.take_into.new.self c.deref.ensures.value c.in_ok-kind.ensures.next) (c.in_ok-take_step.ensures.answer (take n log) c.loop-number.invariant.taken) in
+    c.loop-number.invariant.left (told_next c.in_ok-kind.kind c.as_slice-clause.result.now c.take_into.new.lits.items c.deref.result.now c.take_into.new.hints.items c.loop-number.reader c.take_into.new.self c.as_slice-clause.ensures.value c.deref.ensures.value c.in_ok-kind.ensures.next) (c.in_ok-take_step.ensures.answer (take n log) c.loop-number.invariant.taken) in
     absurd (apart c.in_ok-take_step.field-0 c.if-not-branch.true (sym answer ∙ refuted.derived n within))
 
 pub returns-then-ends_empty-clause-refuted : goal.returns-then-ends_empty-clause-refuted

@@ -1,5 +1,5 @@
 use Rattle.plan_endings.proofs.published.Stopped.{handed, weaker}
-use Rattle.input_files.specs.Named as named
+use Rattle.plan_tasks.specs.Named as named
 use Rattle.search_top.specs.Seen.{seen}
 use Rattle.search_top.specs.declared.ended.Ended.TheVariants.{Plain}
 use Rattle.search_top.proofs.Deciding.{stops_for, taken_for}

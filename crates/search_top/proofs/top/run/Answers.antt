@@ -3,7 +3,7 @@ use Rattle.plan_endings.specs.Ends.{end_in}
 use Rattle.plan_endings.proofs.published.Stopped.{end_answers}
 use Rattle.search_top.specs.declared.request.How.TheVariants as how
 use Rattle.search_top.specs.declared.ended.Ended.TheVariants.{Plain, Usage}
-use Rattle.search_top.proofs.Promises.{runs, least, no_plan, spent, read_fault, usage, not_taken, no_command, status_apart}
+use Rattle.search_top.proofs.Promises.{runs, least, no_plan, spent, never, excluded, left_open, certified, accepted, rejected, read_fault, usage, not_taken, no_command, status_apart}
 use Rattle.search_top.proofs.top.run.Goals as goal
 
 pub finish-requires : goal.finish-requires
@@ -29,6 +29,24 @@ returns-clause-no_plan g c domain problem by n m one is =
 pub returns-clause-spent : goal.returns-clause-spent
 returns-clause-spent g c text domain problem by n m two printed is =
     spent _ _ _ _ _ _ _ _ c.laws.ensures (returns-clause-due g c) domain problem by n m is text two printed
+
+pub returns-clause-never : goal.returns-clause-never
+returns-clause-never g c domain problem zero is = never _ _ _ _ _ _ _ _ c.laws.ensures (returns-clause-due g c) domain problem is zero
+
+pub returns-clause-excluded : goal.returns-clause-excluded
+returns-clause-excluded g c text domain problem zero printed is = excluded _ _ _ _ _ _ _ _ c.laws.ensures (returns-clause-due g c) domain problem is text zero printed
+
+pub returns-clause-open : goal.returns-clause-open
+returns-clause-open g c domain problem two is = left_open _ _ _ _ _ _ _ _ c.laws.ensures (returns-clause-due g c) domain problem is two
+
+pub returns-clause-certified : goal.returns-clause-certified
+returns-clause-certified g c domain problem certificate zero is = certified _ _ _ _ _ _ _ _ c.laws.ensures (returns-clause-due g c) domain problem certificate is zero
+
+pub returns-clause-accepted : goal.returns-clause-accepted
+returns-clause-accepted g c text domain problem certificate zero printed is = accepted _ _ _ _ _ _ _ _ c.laws.ensures (returns-clause-due g c) domain problem certificate is text zero printed
+
+pub returns-clause-rejected : goal.returns-clause-rejected
+returns-clause-rejected g c text domain problem certificate one printed is = rejected _ _ _ _ _ _ _ _ c.laws.ensures (returns-clause-due g c) domain problem certificate is text one printed
 
 pub returns-clause-read_fault : goal.returns-clause-read_fault
 returns-clause-read_fault g c = read_fault _ _ _ _ _ _ _ _ (returns-clause-due g c)

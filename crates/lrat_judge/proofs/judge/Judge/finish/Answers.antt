@@ -1,4 +1,4 @@
-use Rattle.std.proofs.Common.{◌≡◌, ◌∙◌, ℕ, List, Ok, refl, sym, ap, subst}
+use Rattle.std.proofs.Common.{◌≡◌, ◌∙◌, Ok, refl, sym, ap, subst}
 use Rattle.clause_base.specs.Formula.{Cnf, IsUnsatisfiable}
 use Rattle.lrat_judge.specs.declared.verdict.Verdict.TheVariants.{Refuted}
 use Rattle.lrat_judge.specs.Judged.{Judged, IsRefutedBy}

@@ -1,5 +1,4 @@
-use Rattle.std.proofs.Common.{◌≡◌, ◌∙◌, ◌++◌, ℕ, sym, ap}
-use Rattle.clause_base.specs.Formula.{IsUnsatisfiable}
+use Rattle.std.proofs.Common.{◌∙◌, ◌++◌, sym}
 use Rattle.lrat_judge.proofs.Counted.{unsatisfiable_once, refuted_at}
 use Rattle.lrat_judge.proofs.Reading.{at_once}
 use Rattle.lrat_judge.proofs.judge.Judge.take.Goals as goal

@@ -1,6 +1,6 @@
 use Rattle.std.proofs.Common.{◌≡◌, ◌∙◌, ◌++◌, ◌∷◌, [], ℕ, List, Ok, sym, ap, subst}
 use Rattle.clause_base.specs.Formula.{Cnf, IsUnsatisfiable}
-use Rattle.lrat_judge.specs.Judged.{Judged, IsRefutedBy, has_empty}
+use Rattle.lrat_judge.specs.Judged.{IsRefutedBy, has_empty}
 use Rattle.lrat_judge.specs.Verdicts.{verdict_of, last_part}
 use Rattle.lrat_judge.specs.Reached.{HasRead}
 use Rattle.lrat_judge.specs.declared.verdict.Verdict.TheVariants.{More}

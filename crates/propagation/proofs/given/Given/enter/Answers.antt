@@ -13,23 +13,26 @@ use Rattle.propagation.proofs.Slotted.{slots_long}
 use Rattle.propagation.proofs.given.Given.enter.Goals as goal
 use Rattle.propagation.proofs.given.Given.enter.Goals.{After-clause-clause, After-widen}
 
-read : (c : After-clause-clause) → c.clause-clause.result ≡ clause_at c.args.store.now c.args.number
-read c = c.clause-clause.ensures ∙ sym (clause_is c.args.store.now c.args.number)
+read : (c : After-clause-clause) → c.clause-clause.result ≡ clause_at c.args.store.now.clauses c.args.number
+read c = c.clause-clause.ensures ∙ sym (clause_is c.args.store.now.clauses c.args.number)
 
-wide : (c : After-widen) → AreGiven c.args.codes c.args.store.now c.args.number (record c.args.self.now { lists = c.widen.new.self })
-wide c = given_wider c.args.codes c.args.store.now c.args.number c.args.self.now c.widen.new.self (omega (arith, c.requires.inside)) c.requires.given c.widen.ensures.wider
+wide : (c : After-widen) → AreGiven c.args.codes c.args.store.now.clauses c.args.number (record c.args.self.now { lists = c.widen.new.self })
+wide c = given_wider c.args.codes c.args.store.now.clauses c.args.number c.args.self.now c.widen.new.self (omega (arith, c.requires.inside)) c.requires.given c.widen.ensures.wider
 
 pub returns-then-length-eq2 : goal.returns-then-length-eq2
 returns-then-length-eq2 c =
     let here = (goal.at.returns-then-length-eq2 c).After-clause-clause in
-    given_two c.args.codes c.args.store.now c.args.number c.args.self.now c.requires.given (omega (arith, ap (λ (xs : List ℕ). length xs) (read here), c.len-length.ensures, c.if-length-eq2.true))
+    given_two c.args.codes c.args.store.now.clauses c.args.number c.args.self.now c.requires.given (omega (arith, ap (λ (xs : List ℕ). length xs) (read here), c.len-length.ensures, c.if-length-eq2.true))
 
 pub returns-then-length-lt2 : goal.returns-then-length-lt2
 returns-then-length-lt2 c =
     let here = (goal.at.returns-then-length-lt2 c).After-clause-clause in
-    given_short c.args.codes c.args.store.now c.args.number c.only_ask.result c.args.self.now c.put.new.self c.requires.given
+    given_short c.args.codes c.args.store.now.clauses c.args.number c.only_ask.result c.args.self.now c.put.new.self c.requires.given
     (omega (arith, ap (λ (xs : List ℕ). length xs) (read here), c.len-length.ensures, c.if-length-lt2.true)) c.requires.inside
     (λ on. subst (λ (xs : List ℕ). IsAsk on xs c.only_ask.result) (read here) (c.only_ask.ensures on)) c.put.ensures
+
+pub clause-clause-requires-clause-read : goal.clause-clause-requires-clause-read
+clause-clause-requires-clause-read c = c.requires.read c.args.number
 
 pub put-requires-clause-number : goal.put-requires-clause-number
 put-requires-clause-number c = omega (arith, c.requires.inside, c.requires.given.room)
@@ -40,7 +43,7 @@ put-requires-clause-ask c = omega (arith, c.requires.inside, c.requires.given.lo
 pub widen-requires : goal.widen-requires
 widen-requires c =
     let g = c.requires.given in
-    let long = slots_long c.args.store.now c.args.self.now.slots.items in
+    let long = slots_long c.args.store.now.clauses c.args.self.now.slots.items in
     record {
       few = omega (arith, c.requires.inside, c.requires.few);
       few_slots = omega (arith, c.requires.inside, c.requires.few, g.few, c.len-slot.ensures);
@@ -51,7 +54,7 @@ widen-requires c =
     }
 
 pub enter_last-requires-clause-below : goal.enter_last-requires-clause-below
-enter_last-requires-clause-below c = fit_read c.args.store.now c.args.codes c.args.number c.clause-clause.result c.requires.fit c.clause-clause.ensures
+enter_last-requires-clause-below c = fit_read c.args.store.now.clauses c.args.codes c.args.number c.clause-clause.result c.requires.fit c.clause-clause.ensures
 
 pub enter_last-requires-clause-lawful : goal.enter_last-requires-clause-lawful
 enter_last-requires-clause-lawful c =
@@ -68,13 +71,13 @@ pub enter_last-requires-clause-loose : goal.enter_last-requires-clause-loose
 enter_last-requires-clause-loose c =
     let slots = c.args.self.now.slots.items in
     let w = c.widen.new.self in
-    pair_loose (slot_clauses c.args.store.now slots) w.resume_at.items w.chains.heads.items w.chains.nodes.items c.args.codes (replicate (length slots) true) c.len-slot.result
-    (wide (goal.at.enter_last-requires-clause-loose c).After-widen).rest (omega (arith, c.len-slot.ensures, slots_long c.args.store.now slots))
+    pair_loose (slot_clauses c.args.store.now.clauses slots) w.resume_at.items w.chains.heads.items w.chains.nodes.items c.args.codes (replicate (length slots) true) c.len-slot.result
+    (wide (goal.at.enter_last-requires-clause-loose c).After-widen).rest (omega (arith, c.len-slot.ensures, slots_long c.args.store.now.clauses slots))
 
 pub returns : goal.returns
 returns c =
     let here = (goal.at.returns c).After-clause-clause in
-    let store = c.args.store.now in
+    let store = c.args.store.now.clauses in
     let g = record c.args.self.now { lists = c.widen.new.self } in
     let g' = record c.args.self.now { slots = c.push.new.self; lists = c.enter_last.new.self } in
     let rests = subst (λ (n : ℕ). RestsWith (clause_at store c.args.number) n c.args.codes g.lists g'.lists)

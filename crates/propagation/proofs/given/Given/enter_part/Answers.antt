@@ -20,7 +20,7 @@ enter-requires-clause-given c =
     let t = c.loop-index.self in
     let i = c.loop-index.invariant in
     let places = c.args.others.now.places.items in
-    given_passed c.args.codes c.args.store.now c.args.first c.loop-index.next c.index-place.result.now c.loop-index.index c.args.others.now.count places t i.given
+    given_passed c.args.codes c.args.store.now.clauses c.args.first c.loop-index.next c.index-place.result.now c.loop-index.index c.args.others.now.count places t i.given
     (omega (arith, i.ahead c.loop-index.index (omega arith) (inside a), place_is a)) (omega (arith, below a)) c.requires.twos i.past
     (ahead_of places c.loop-index.index c.index-place.result.now c.requires.rising (place_is a))
 
@@ -37,7 +37,7 @@ loop-index-preserved c =
       past = past_next places c.loop-index.index c.index-place.result.now c.requires.rising (inside a) (place_is a);
       ahead = λ i h g. omega (arith, place_is a, c.requires.rising c.loop-index.index i (omega (arith, h)) g);
       given =
-          subst (λ (n : ℕ). AreGiven c.args.codes c.args.store.now n t) (let e : c.args.first + c.index-place.result.now + 1 ≡ c.args.first + (c.index-place.result.now + 1) = omega arith in e)
+          subst (λ (n : ℕ). AreGiven c.args.codes c.args.store.now.clauses n t) (let e : c.args.first + c.index-place.result.now + 1 ≡ c.args.first + (c.index-place.result.now + 1) = omega arith in e)
           c.in_ok-enter.ensures;
     }
 
@@ -45,7 +45,7 @@ pub returns-clause-given : goal.returns-clause-given
 returns-clause-given c =
     let t = c.loop-index.self in
     let i = c.loop-index.invariant in
-    given_passed c.args.codes c.args.store.now c.args.first c.loop-index.next c.args.others.now.count c.loop-index.index c.args.others.now.count c.args.others.now.places.items t i.given i.within
+    given_passed c.args.codes c.args.store.now.clauses c.args.first c.loop-index.next c.args.others.now.count c.loop-index.index c.args.others.now.count c.args.others.now.places.items t i.given i.within
     (omega arith) c.requires.twos i.past (λ k h g. absurd (omega (arith, h, g, c.loop-index-test.false, c.len-index-end.ensures)))
 
 pub overflow_add-first : goal.overflow_add-first

@@ -7,5 +7,5 @@ invariant-loop-index l = record {
   within : l.next ≤ l.others.count;
   past : (i : ℕ) → i < l.index → get_or l.others.places.items i 0 < l.next;
   ahead : (i : ℕ) → l.index ≤ i → i < length l.others.places.items → l.next ≤ get_or l.others.places.items i 0;
-  given : AreGiven l.codes l.store (l.first + l.next) l.self;
+  given : AreGiven l.codes l.store.clauses (l.first + l.next) l.self;
 }

@@ -11,4 +11,4 @@ enter_part-requires-clause-inside c =
 pub enter_part-requires-clause-twos : goal.enter_part-requires-clause-twos
 enter_part-requires-clause-twos c j h =
     let k : c.loop.next + j ≡ c.args.first + (c.loop.counter * c.args.others.now.count + j) = omega (arith, c.loop.invariant.next) in
-    ap (λ (n : ℕ). length (clause_at c.args.store.now n)) k ∙ c.requires.twos c.loop.counter j c.loop-test.true h
+    ap (λ (n : ℕ). length (clause_at c.args.store.now.clauses n)) k ∙ c.requires.twos c.loop.counter j c.loop-test.true h

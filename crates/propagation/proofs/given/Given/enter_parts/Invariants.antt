@@ -5,5 +5,5 @@ use Rattle.propagation.proofs.given.Given.enter_parts.Given as goal
 abbrev pub invariant-loop : goal.invariant-loop
 invariant-loop l = record {
   next : l.next ≡ l.first + l.counter * l.others.count;
-  given : AreGiven l.codes l.store l.next l.self;
+  given : AreGiven l.codes l.store.clauses l.next l.self;
 }

@@ -47,14 +47,14 @@ pub enter_part-requires-clause-given : goal.enter_part-requires-clause-given
 enter_part-requires-clause-given c =
     let g = c.in_ok-given.given in
     let e = c.in_ok-given.ensures in
-    given_none c.args.codes c.args.store.now g e.slots e.linked e.codes e.pending
+    given_none c.args.codes c.args.store.now.clauses g e.slots e.linked e.codes e.pending
     (omega (arith, e.room, c.count.ensures.value, ap (λ (cs : List (List ℕ)). length cs) c.requires.same))
     (omega (arith, e.asks, c.count.ensures.value, ap (λ (cs : List (List ℕ)). length cs) c.requires.same))
 
 pub enter_part-requires-clause-twos : goal.enter_part-requires-clause-twos
 enter_part-requires-clause-twos c =
     let p = c.parts-parts.result in
-    told_two p.told.now p.after.now c.args.store.now p.repeated.now c.in_ok-told_others.told_others.places.items c.in_ok-told_others.told_others.count
+    told_two p.told.now p.after.now c.args.store.now.clauses p.repeated.now c.in_ok-told_others.told_others.places.items c.in_ok-told_others.told_others.count
     0 (c.requires.same ∙ c.parts-parts.ensures.clauses) refl (sized c.in_ok-told_others.ensures.count refl)
     (twos_of p.told.now p.told.now c.in_ok-told_others.told_others.places.items c.in_ok-told_others.told_others.count refl c.in_ok-told_others.ensures.twos)
 
@@ -65,13 +65,13 @@ enter_parts-requires-clause-inside c =
     let next = after_parts (c.in_ok-told.told + c.horizon-steps.result * c.in_ok-step_others.step_others.count) c.in_ok-told.told
     c.horizon-steps.result c.in_ok-step_others.step_others.count r.horizon (length r.step) refl c.horizon-steps.ensures.value
     (sized c.in_ok-step_others.ensures.count c.step.ensures) in
-    omega (arith, next, whole_long p.told.now p.after.now c.args.store.now r (c.requires.same ∙ c.parts-parts.ensures.clauses), told_end (goal.at.enter_parts-requires-clause-inside c).In_ok-told)
+    omega (arith, next, whole_long p.told.now p.after.now c.args.store.now.clauses r (c.requires.same ∙ c.parts-parts.ensures.clauses), told_end (goal.at.enter_parts-requires-clause-inside c).In_ok-told)
 
 pub enter_parts-requires-clause-twos : goal.enter_parts-requires-clause-twos
 enter_parts-requires-clause-twos c t j lt f =
     let p = c.parts-parts.result in
     let r = p.repeated.now in
-    steps_two p.told.now p.after.now c.args.store.now r c.in_ok-step_others.step_others.places.items c.in_ok-step_others.step_others.count
+    steps_two p.told.now p.after.now c.args.store.now.clauses r c.in_ok-step_others.step_others.places.items c.in_ok-step_others.step_others.count
     c.in_ok-told.told (c.requires.same ∙ c.parts-parts.ensures.clauses) (told_end (goal.at.enter_parts-requires-clause-twos c).In_ok-told)
     (sized c.in_ok-step_others.ensures.count c.step.ensures)
     (twos_of c.step.result.now r.step c.in_ok-step_others.step_others.places.items c.in_ok-step_others.step_others.count c.step.ensures
@@ -85,14 +85,14 @@ enter_parts-requires-2-clause-inside c =
     let next = after_parts (c.in_ok-stepped.stepped + c.horizon-steps.result * c.in_ok-time_others.time_others.count) c.in_ok-stepped.stepped
     c.horizon-steps.result c.in_ok-time_others.time_others.count r.horizon (length r.time) refl c.horizon-steps.ensures.value
     (sized c.in_ok-time_others.ensures.count c.time.ensures) in
-    omega (arith, next, whole_long p.told.now p.after.now c.args.store.now r (c.requires.same ∙ c.parts-parts.ensures.clauses), steps_end a.In_ok-stepped (told_end a.In_ok-told))
+    omega (arith, next, whole_long p.told.now p.after.now c.args.store.now.clauses r (c.requires.same ∙ c.parts-parts.ensures.clauses), steps_end a.In_ok-stepped (told_end a.In_ok-told))
 
 pub enter_parts-requires-2-clause-twos : goal.enter_parts-requires-2-clause-twos
 enter_parts-requires-2-clause-twos c t j lt f =
     let a = goal.at.enter_parts-requires-2-clause-twos c in
     let p = c.parts-parts.result in
     let r = p.repeated.now in
-    times_two p.told.now p.after.now c.args.store.now r c.in_ok-time_others.time_others.places.items c.in_ok-time_others.time_others.count
+    times_two p.told.now p.after.now c.args.store.now.clauses r c.in_ok-time_others.time_others.places.items c.in_ok-time_others.time_others.count
     c.in_ok-stepped.stepped (c.requires.same ∙ c.parts-parts.ensures.clauses) (steps_end a.In_ok-stepped (told_end a.In_ok-told))
     (sized c.in_ok-time_others.ensures.count c.time.ensures)
     (twos_of c.time.result.now r.time c.in_ok-time_others.time_others.places.items c.in_ok-time_others.time_others.count c.time.ensures
@@ -104,7 +104,7 @@ enter_part-requires-2-clause-inside c =
     let p = c.parts-parts.result in
     omega (
       arith,
-      whole_long p.told.now p.after.now c.args.store.now p.repeated.now (c.requires.same ∙ c.parts-parts.ensures.clauses),
+      whole_long p.told.now p.after.now c.args.store.now.clauses p.repeated.now (c.requires.same ∙ c.parts-parts.ensures.clauses),
       times_end
           a.In_ok-timed (steps_end a.In_ok-stepped (told_end a.In_ok-told)),
       sized c.in_ok-time_others.ensures.count c.time.ensures,
@@ -119,8 +119,8 @@ enter_part-requires-2-clause-twos c j f =
     let size = sized c.in_ok-time_others.ensures.count c.time.ensures in
     let at : c.in_ok-timed.timed + j ≡ c.in_ok-stepped.stepped + (r.horizon * c.in_ok-time_others.time_others.count + j) =
     (let e = ap (λ (n : ℕ). r.horizon * n) size in omega (arith, times_end a.In_ok-timed stepped, stepped, e)) in
-    ap (λ (n : ℕ). length (clause_at c.args.store.now n)) at
-    ∙ times_two p.told.now p.after.now c.args.store.now r c.in_ok-time_others.time_others.places.items c.in_ok-time_others.time_others.count
+    ap (λ (n : ℕ). length (clause_at c.args.store.now.clauses n)) at
+    ∙ times_two p.told.now p.after.now c.args.store.now.clauses r c.in_ok-time_others.time_others.places.items c.in_ok-time_others.time_others.count
     c.in_ok-stepped.stepped (c.requires.same ∙ c.parts-parts.ensures.clauses) stepped size
     (twos_of c.time.result.now r.time c.in_ok-time_others.time_others.places.items c.in_ok-time_others.time_others.count c.time.ensures c.in_ok-time_others.ensures.twos) r.horizon j (omega arith) f
 
@@ -130,7 +130,7 @@ enter_part-requires-3-clause-inside c =
     let p = c.parts-parts.result in
     omega (
       arith,
-      whole_long p.told.now p.after.now c.args.store.now p.repeated.now (c.requires.same ∙ c.parts-parts.ensures.clauses),
+      whole_long p.told.now p.after.now c.args.store.now.clauses p.repeated.now (c.requires.same ∙ c.parts-parts.ensures.clauses),
       last_end
           a.In_ok-last (times_end a.In_ok-timed (steps_end a.In_ok-stepped (told_end a.In_ok-told))),
       sized c.in_ok-after_others.ensures.count refl,
@@ -140,7 +140,7 @@ pub enter_part-requires-3-clause-twos : goal.enter_part-requires-3-clause-twos
 enter_part-requires-3-clause-twos c =
     let a = goal.at.enter_part-requires-3-clause-twos c in
     let p = c.parts-parts.result in
-    after_two p.told.now p.after.now c.args.store.now p.repeated.now c.in_ok-after_others.after_others.places.items
+    after_two p.told.now p.after.now c.args.store.now.clauses p.repeated.now c.in_ok-after_others.after_others.places.items
     c.in_ok-after_others.after_others.count c.in_ok-last.last (c.requires.same ∙ c.parts-parts.ensures.clauses)
     (last_end a.In_ok-last (times_end a.In_ok-timed (steps_end a.In_ok-stepped (told_end a.In_ok-told))))
     (twos_of p.after.now p.after.now c.in_ok-after_others.after_others.places.items c.in_ok-after_others.after_others.count refl c.in_ok-after_others.ensures.twos)
@@ -150,15 +150,15 @@ returns c =
     let a = goal.at.returns c in
     let p = c.parts-parts.result in
     let e = c.enter_part-3.new.self in
-    let end : c.in_ok-enter_part.field-0 ≡ length c.args.store.now = omega (
+    let end : c.in_ok-enter_part.field-0 ≡ length c.args.store.now.clauses = omega (
       arith,
-      whole_long p.told.now p.after.now c.args.store.now p.repeated.now (c.requires.same ∙ c.parts-parts.ensures.clauses),
+      whole_long p.told.now p.after.now c.args.store.now.clauses p.repeated.now (c.requires.same ∙ c.parts-parts.ensures.clauses),
       last_end
           a.In_ok-last (times_end a.In_ok-timed (steps_end a.In_ok-stepped (told_end a.In_ok-told))),
       sized c.in_ok-after_others.ensures.count refl,
       c.in_ok-enter_part.ensures.next,
     ) in
-    subst (λ (n : ℕ). AreGiven c.args.codes c.args.store.now n e) end c.in_ok-enter_part.ensures.given
+    subst (λ (n : ℕ). AreGiven c.args.codes c.args.store.now.clauses n e) end c.in_ok-enter_part.ensures.given
 
 pub enter_part-requires-clause-few : goal.enter_part-requires-clause-few
 enter_part-requires-clause-few c = few_clauses c.count.ensures.few c.requires.same
@@ -178,4 +178,4 @@ enter_part-requires-3-clause-few c = few_clauses c.count.ensures.few c.requires.
 pub enter_part-requires-clause-inside : goal.enter_part-requires-clause-inside
 enter_part-requires-clause-inside c =
     let p = c.parts-parts.result in
-    omega (arith, whole_long p.told.now p.after.now c.args.store.now p.repeated.now (c.requires.same ∙ c.parts-parts.ensures.clauses), sized c.in_ok-told_others.ensures.count refl)
+    omega (arith, whole_long p.told.now p.after.now c.args.store.now.clauses p.repeated.now (c.requires.same ∙ c.parts-parts.ensures.clauses), sized c.in_ok-told_others.ensures.count refl)

@@ -13,6 +13,7 @@ use Rattle.propagation.specs.own.Sound.{AreSound}
 use Rattle.propagation.proofs.Enters.{pair_loose, below_by, short_by}
 use Rattle.propagation.proofs.Paired.{paired_add}
 use Rattle.propagation.proofs.Slotted.{slots_long}
+use Rattle.cdcl_tables.specs.Stored.{StoreView}
 use Rattle.propagation.proofs.Sounds.{IsAddedTo, sound_add}
 use Rattle.propagation.proofs.Wider.{sound_room, sound_again}
 use Rattle.propagation.proofs.propagator.Propagator.add_sorted.Goals as goal
@@ -27,7 +28,7 @@ roomy : (c : After-make_room)
 roomy c = let w = c.self.inside in sound_room w.variables w.tables c.make_room.new.tables w.lists c.make_room.new.lists (literals w.trail.entries)
     w.quiet.items c.self.invariant.0 c.make_room.ensures.same c.make_room.ensures.wider
 
-paired : (c : After-make_room) → IsPaired c.self.inside.variables c.make_room.new.tables.store c.make_room.new.tables.slots.items c.self.inside.pairs
+paired : (c : After-make_room) → IsPaired c.self.inside.variables c.make_room.new.tables.store.clauses c.make_room.new.tables.slots.items c.self.inside.pairs
 paired c = let e = c.make_room.ensures.same in rw (e.store, e.slots) c.self.invariant.1
 
 over : (c : After-assignment-assignment) → c.assignment-assignment.result.variables ≡ c.self.inside.variables
@@ -40,7 +41,7 @@ pub make_room-requires : goal.make_room-requires
 make_room-requires c =
     let w = c.self.inside in
     let i = c.self.invariant.0 in
-    let long = slots_long w.tables.store w.tables.slots.items in
+    let long = slots_long w.tables.store.clauses w.tables.slots.items in
     record {
       few = omega (arith, c.if-number-ge-MOST_CLAUSES.false);
       few_slots = omega (arith, c.if-number-ge-MOST_CLAUSES.false, i.slots_few, c.count-number.ensures.value, c.len-slot.ensures);
@@ -106,7 +107,7 @@ take_slot-requires-clause-loose c =
     let t = c.make_room.new.tables in
     let l = c.make_room.new.lists in
     pair_loose (clauses_in t) l.resume_at.items l.chains.heads.items l.chains.nodes.items (2 * w.variables) (flags_in t) (length t.slots.items) (roomy h).rest
-    (sym (slots_long t.store t.slots.items))
+    (sym (slots_long t.store.clauses t.slots.items))
 
 pub raise-requires-clause-number : goal.raise-requires-clause-number
 raise-requires-clause-number c = omega (arith, c.in_ok-make_room.ensures.room.in_numbers, ap (λ (p : Pending). length p.numbers) c.take_slot.ensures.pending)
@@ -128,7 +129,7 @@ invariant_of-self-2 c =
     let trail = literals w.trail.entries in
     let e = c.make_room.ensures.same in
     let r = roomy h in
-    let number : c.count-number.result ≡ length t.store = c.count-number.ensures.value ∙ ap (λ (cs : List (List ℕ)). length cs) (sym e.store) in
+    let number : c.count-number.result ≡ length t.store.clauses = c.count-number.ensures.value ∙ ap (λ (s : StoreView). length s.clauses) (sym e.store) in
     let lits = c.as_slice.ensures in
     let taken = subst (λ (n : ℕ). IsTaken k c.count-number.result (2 * n) trail t.slots.items l c.take_slot.new.slots.items c.take_slot.new.lists) (over a)
     (subst (λ (ys : List ℕ). IsTaken k c.count-number.result (2 * c.assignment-assignment.result.variables) ys t.slots.items l
@@ -143,7 +144,8 @@ invariant_of-self-2 c =
       few = omega (arith, c.if-number-ge-MOST_CLAUSES.false);
       room = c.in_ok-make_room.ensures.room.in_numbers;
       long = c.in_ok-make_room.ensures.room.in_asks;
-      store = c.in_ok-push.ensures.ok;
+      store = ap (λ (s : StoreView). s.clauses) c.in_ok-push.ensures.ok;
+      packed = ap (λ (s : StoreView). s.packed) c.in_ok-push.ensures.ok;
       steps = refl;
       kept_below = refl;
       kept = c.in_ok-push-2.ensures.items;
@@ -161,7 +163,7 @@ invariant_of-self-2 c =
       off = subst (λ (ys : List ℕ). (n : ℕ) → c.in_ok-entered.entered.low ≤ n → n < length ys → get_or c.raise.new.quiet.items n false ≡ false) (told a) c.raise.ensures.off;
     } in (
       sound_add w.variables t l trail w.quiet.items k c.count-number.result c.in_ok-entered.entered t' c.take_slot.new.lists c.raise.new.pending c.raise.new.quiet.items r done,
-      subst (λ (cs : List (List ℕ)). IsPaired w.variables cs c.take_slot.new.slots.items w.pairs) (sym c.in_ok-push.ensures.ok)
-          (paired_add w.variables c.count-number.result (2 * w.variables) t.store k trail w.pairs t.slots.items l c.take_slot.new.slots.items c.take_slot.new.lists (paired h) number taken),
+      subst (λ (cs : List (List ℕ)). IsPaired w.variables cs c.take_slot.new.slots.items w.pairs) (sym (ap (λ (s : StoreView). s.clauses) c.in_ok-push.ensures.ok))
+          (paired_add w.variables c.count-number.result (2 * w.variables) t.store.clauses k trail w.pairs t.slots.items l c.take_slot.new.slots.items c.take_slot.new.lists (paired h) number taken),
       c.self.invariant.2,
     )

@@ -59,7 +59,7 @@ pub leave-requires : goal.leave-requires
 leave-requires c = omega (arith, c.length-length.ensures.short, c.self.invariant.2, c.self.invariant.0.quiet_size)
 
 pub mark_pairs-requires-clause-fit : goal.mark_pairs-requires-clause-fit
-mark_pairs-requires-clause-fit c = subst (λ (n : ℕ). IsFit c.self.inside.tables.store (2 * n))
+mark_pairs-requires-clause-fit c = subst (λ (n : ℕ). IsFit c.self.inside.tables.store.clauses (2 * n))
     (sym (over (goal.at.mark_pairs-requires-clause-fit c).After-assignment-assignment)) c.self.invariant.0.tables.fit
 
 pub mark_pairs-requires-clause-falsified : goal.mark_pairs-requires-clause-falsified
@@ -73,9 +73,9 @@ pub mark_pairs-requires-clause-asks : goal.mark_pairs-requires-clause-asks
 mark_pairs-requires-clause-asks c =
     let w = c.self.inside in
     let now = c.leave.new.pending in
-    subst (λ (ys : List ℕ). HasAsks w.tables.store ys now) (sym (told (goal.at.mark_pairs-requires-clause-asks c).After-assignment-assignment))
-    (asks_longer w.tables.store (literals w.trail.entries) c.args.entry.literal now
-    (asks_without w.tables.store (literals w.trail.entries) c.args.entry.reason w.lists.pending now c.self.invariant.0.asks c.leave.ensures.without))
+    subst (λ (ys : List ℕ). HasAsks w.tables.store.clauses ys now) (sym (told (goal.at.mark_pairs-requires-clause-asks c).After-assignment-assignment))
+    (asks_longer w.tables.store.clauses (literals w.trail.entries) c.args.entry.literal now
+    (asks_without w.tables.store.clauses (literals w.trail.entries) c.args.entry.reason w.lists.pending now c.self.invariant.0.asks c.leave.ensures.without))
 
 pub visit_all-requires-clause-code : goal.visit_all-requires-clause-code
 visit_all-requires-clause-code c =
@@ -143,18 +143,18 @@ complete c tr =
     let more = gone_more was now is in
     let grows = gone_grows was now is (λ k h. e.grows k (c.mark_pairs.ensures.grows k h)) in
     let slotted = assign_complete (clauses_in w.tables) w.lists.chains.nodes.items nodes (flags_in w.tables) trail
-    x (slot_set was slots) (slot_set all slots) (flags_long w.tables.kept.items slots ∙ sym (slots_long w.tables.store slots))
+    x (slot_set was slots) (slot_set all slots) (flags_long w.tables.kept.items slots ∙ sym (slots_long w.tables.store.clauses slots))
     (two_watched (clauses_in w.tables) c.visit_all.new.self.resume_at.items c.visit_all.new.self.chains.heads.items nodes
     (2 * c.assignment-assignment.result.variables) (flags_in w.tables) e.rest)
     (whole_free (clauses_in w.tables) w.lists.chains.nodes.items (flags_in w.tables) trail i.free) (moves c)
     (settled_more (clauses_in w.tables) nodes on (slot_set is slots) (slot_set all slots) (opposite x) (flags_in w.tables) (λ k h. more (get_or slots k 0) h) (settled c))
-    (λ k h. grows (get_or slots k 0) h) (slots_complete w.tables.store w.tables.kept.items slots trail was i.complete) in
-    let found = found_complete w.variables w.tables.store w.tables.kept.items trail slots x w.pairs (pairs_of w.pairs c.falsified.inside.0) was
+    (λ k h. grows (get_or slots k 0) h) (slots_complete w.tables.store.clauses w.tables.kept.items slots trail was i.complete) in
+    let found = found_complete w.variables w.tables.store.clauses w.tables.kept.items trail slots x w.pairs (pairs_of w.pairs c.falsified.inside.0) was
     all i.tables.kept c.self.invariant.1 (ap (λ (l : ℕ). pairs_of w.pairs l) op)
     (λ k h none. more _ (e.grows _ (c.mark_pairs.ensures.in_set k h (ap (λ (ys : List ℕ). has_literal ys (pair_in (pairs_of w.pairs c.falsified.inside.0) k).other) (sym tr) ∙ none))))
     grows i.complete slotted in
-    not_gone w.tables.store w.tables.kept.items (trail ++ x ∷ []) x c.args.entry.reason w.lists.pending c.leave.new.pending is c.leave.ensures.without
-    (own_of w.tables.store c.args.entry (subst (λ (v : PropagatorView). HasOwn v.clauses c.args.entry) (sym c.self.view_is) c.requires.reason))
+    not_gone w.tables.store.clauses w.tables.kept.items (trail ++ x ∷ []) x c.args.entry.reason w.lists.pending c.leave.new.pending is c.leave.ensures.without
+    (own_of w.tables.store.clauses c.args.entry (subst (λ (v : PropagatorView). HasOwn v.clauses c.args.entry) (sym c.self.view_is) c.requires.reason))
     (last_true trail x) found
 
 pub invariant_of-self : goal.invariant_of-self
@@ -179,11 +179,11 @@ invariant_of-self c =
       free = assign_free (clauses_in w.tables) w.lists.chains.nodes.items l'.chains.nodes.items (flags_in w.tables) trail x
           (slot_set (words_have l'.pending.numbers) w.tables.slots.items) i.free (moves visited) (settled visited);
       consistent = consistent here;
-      asks = subst (λ (ys : List ℕ). HasAsks w.tables.store ys l'.pending) (told here) e.asks;
+      asks = subst (λ (ys : List ℕ). HasAsks w.tables.store.clauses ys l'.pending) (told here) e.asks;
       complete = complete visited (sym (told here));
       quiet_size = ap (λ (qs : List Bool). length qs) flag.is ∙ length-set w.quiet.items c.length-length.result flag.flag ∙ i.quiet_size;
       quiets = subst (λ (qs : List Bool). (n : ℕ) → n < length (trail ++ x ∷ []) → get_or qs n false ≡ true → (k : ℕ) → pending_in w.tables (take n (trail ++ x ∷ [])) k ≡ false) (sym flag.is)
-          (assign_quiets w.tables.store w.tables.kept.items trail x w.quiet.items c.length-length.result flag.flag (words_have w.lists.pending.numbers) long
+          (assign_quiets w.tables.store.clauses w.tables.kept.items trail x w.quiet.items c.length-length.result flag.flag (words_have w.lists.pending.numbers) long
           (omega (arith, c.length-length.ensures.short, c.self.invariant.2, i.quiet_size)) flag.none i.complete i.quiets);
     } in (
       subst (λ (ys : List ℕ). AreSound w.variables w.tables l' ys flags) (sym (pushed here)) done,

@@ -99,7 +99,7 @@ invariant_of-self-2 c =
     let p = c.refresh.new.pending in (
       undo_sound w.variables w.tables w.lists (literals w.trail.entries) w.quiet.items (length c.take_back.new.trail.entries)
           (literals c.take_back.new.trail.entries) p c.self.invariant.0 (taken at) (omega (arith, less at))
-          (subst (λ (xs : List ℕ). HasAsks w.tables.store xs p) (told at) c.refresh.ensures.asks) (subst (λ (xs : List ℕ). IsComplete (pending_in w.tables xs) p) (told at) c.refresh.ensures.complete),
+          (subst (λ (xs : List ℕ). HasAsks w.tables.store.clauses xs p) (told at) c.refresh.ensures.asks) (subst (λ (xs : List ℕ). IsComplete (pending_in w.tables xs) p) (told at) c.refresh.ensures.complete),
       c.self.invariant.1,
       ap (λ (t : TrailView). t.variables) c.take_back.ensures ∙ c.self.invariant.2,
     )

@@ -18,7 +18,7 @@ returns-clause-first c =
     let w = c.self.inside in
     let told = ap (λ (t : AssignmentView). t.trail) c.assignment-assignment.ensures in
     c.next.ensures.first (subst (λ (xs : List ℕ). IsComplete (pending_in w.tables xs) w.lists.pending) (sym told) c.self.invariant.0.complete)
-    ∙ ap (λ (xs : List ℕ). first_asked w.tables.store w.tables.kept.items (has_literal xs)) told
+    ∙ ap (λ (xs : List ℕ). first_asked w.tables.store.clauses w.tables.kept.items (has_literal xs)) told
     ∙ ap (λ (v : PropagatorView). first_asked v.clauses v.kept (has_literal (literals v.entries))) c.self.view_is
 
 pub invariant_of-self : goal.invariant_of-self

@@ -28,7 +28,7 @@ beside c =
     ∙ c.requires.visited.1.listed.blockings c.args.place.node (real c)
 
 fit : (c : After-blocking-beside) → IsFit (clauses_in c.args.tables.now) (2 * c.args.assignment.now.variables)
-fit c = fit_slots c.args.tables.now.store c.args.tables.now.slots.items (2 * c.args.assignment.now.variables) c.requires.tables.fit
+fit c = fit_slots c.args.tables.now.store.clauses c.args.tables.now.slots.items (2 * c.args.assignment.now.variables) c.requires.tables.fit
 
 pub blocking-beside-requires : goal.blocking-beside-requires
 blocking-beside-requires c =
@@ -54,7 +54,7 @@ returns-then-is_true-clause-visited c rest v =
 
 pub is_slot_kept-requires-clause-inside : goal.is_slot_kept-requires-clause-inside
 is_slot_kept-requires-clause-inside c =
-    omega (arith, (real (goal.at.is_slot_kept-requires-clause-inside c).After-blocking-beside).below, slots_long c.args.tables.now.store c.args.tables.now.slots.items)
+    omega (arith, (real (goal.at.is_slot_kept-requires-clause-inside c).After-blocking-beside).below, slots_long c.args.tables.now.store.clauses c.args.tables.now.slots.items)
 
 pub drop_at-requires : goal.drop_at-requires
 drop_at-requires c = record { walk = (c.requires.visited.1.listed.on, c.requires.visited.0, c.requires.visited.1.walk) }
@@ -70,21 +70,24 @@ returns-then-not-is_slot_kept-clause-visited c rest v =
 
 pub slot_clause-clause-requires-clause-inside : goal.slot_clause-clause-requires-clause-inside
 slot_clause-clause-requires-clause-inside c =
-    omega (arith, (real (goal.at.slot_clause-clause-requires-clause-inside c).After-blocking-beside).below, slots_long c.args.tables.now.store c.args.tables.now.slots.items)
+    omega (arith, (real (goal.at.slot_clause-clause-requires-clause-inside c).After-blocking-beside).below, slots_long c.args.tables.now.store.clauses c.args.tables.now.slots.items)
 
 pub slot_clause-clause-requires-clause-below : goal.slot_clause-clause-requires-clause-below
 slot_clause-clause-requires-clause-below c = c.requires.tables.slotted
 
+pub slot_clause-clause-requires-clause-kept : goal.slot_clause-clause-requires-clause-kept
+slot_clause-clause-requires-clause-kept c = sym c.is_slot_kept.ensures ∙ c.if-not-is_slot_kept.false
+
 pub new_watch-requires-clause-below : goal.new_watch-requires-clause-below
 new_watch-requires-clause-below c p g =
     let e = c.slot_clause-clause.ensures in
-    let fit = fit_slots c.args.tables.now.store c.args.tables.now.slots.items (2 * c.args.assignment.now.variables) c.requires.tables.fit in
+    let fit = fit_slots c.args.tables.now.store.clauses c.args.tables.now.slots.items (2 * c.args.assignment.now.variables) c.requires.tables.fit in
     let l = fit.below (c.args.place.node / 2) p (subst (λ (xs : List ℕ). p < length xs) e g) in
     omega (arith, l, ap (λ (xs : List ℕ). get_or xs p 0) e)
 
 pub new_watch-requires-clause-short : goal.new_watch-requires-clause-short
 new_watch-requires-clause-short c =
-    let short = (fit_slots c.args.tables.now.store c.args.tables.now.slots.items (2 * c.args.assignment.now.variables) c.requires.tables.fit).short (c.args.place.node / 2) in
+    let short = (fit_slots c.args.tables.now.store.clauses c.args.tables.now.slots.items (2 * c.args.assignment.now.variables) c.requires.tables.fit).short (c.args.place.node / 2) in
     omega (arith, short, ap (λ (xs : List ℕ). length xs) c.slot_clause-clause.ensures)
 
 pub index-requires : goal.index-requires
@@ -179,15 +182,15 @@ returns-in-Some-clause-moves c =
     moves_own (clauses_in c.args.tables.now) c.args.self.now.chains.nodes.items c.move_to.new.self.nodes.items c.args.place.node c.free.inside.0
     (has_literal c.args.assignment.now.trail) (others at.After-move_to (other_is at.After-other)) (own at.After-move_to (other_is at.After-other)) (free_is at.After-free)
 
-number_in : (c : After-blocking-beside) → get_or c.args.tables.now.slots.items (c.args.place.node / 2) 0 < length c.args.tables.now.store
+number_in : (c : After-blocking-beside) → get_or c.args.tables.now.slots.items (c.args.place.node / 2) 0 < length c.args.tables.now.store.clauses
 number_in c =
     let v = c.requires.visited.1 in
     c.requires.tables.slotted (c.args.place.node / 2)
-    (omega (arith, (v.listed.real c.args.place.node c.args.code v.walk.ahead.0).below, slots_long c.args.tables.now.store c.args.tables.now.slots.items))
+    (omega (arith, (v.listed.real c.args.place.node c.args.code v.walk.ahead.0).below, slots_long c.args.tables.now.store.clauses c.args.tables.now.slots.items))
 
 pub number_at-requires : goal.number_at-requires
 number_at-requires c =
-    omega (arith, (real (goal.at.number_at-requires c).After-blocking-beside).below, slots_long c.args.tables.now.store c.args.tables.now.slots.items)
+    omega (arith, (real (goal.at.number_at-requires c).After-blocking-beside).below, slots_long c.args.tables.now.store.clauses c.args.tables.now.slots.items)
 
 pub put-requires-clause-number : goal.put-requires-clause-number
 put-requires-clause-number c = omega (arith, c.number_at.ensures, number_in (goal.at.put-requires-clause-number c).After-blocking-beside, c.requires.asks.room)
@@ -227,7 +230,7 @@ returns-in-None-clause-visited c rest v =
 
 pub returns-in-None-clause-asks : goal.returns-in-None-clause-asks
 returns-in-None-clause-asks c =
-    let store = c.args.tables.now.store in
+    let store = c.args.tables.now.store.clauses in
     let slots = c.args.tables.now.slots.items in
     let on = has_literal c.args.assignment.now.trail in
     let slot = c.args.place.node / 2 in

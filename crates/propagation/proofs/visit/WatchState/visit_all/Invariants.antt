@@ -12,7 +12,7 @@ invariant-visits l = record {
   visited : (rest : List ℕ) × AreVisited l.tables l.self l.assignment.trail (2 * l.assignment.variables) l.code rest l.place;
   moves : MovesToFree (clauses_in l.tables) l.initial.self.chains.nodes.items l.self.chains.nodes.items (has_literal l.assignment.trail);
   grows : Grows (words_have l.initial.self.pending.numbers) (words_have l.self.pending.numbers);
-  asks : HasAsks l.tables.store l.assignment.trail l.self.pending;
+  asks : HasAsks l.tables.store.clauses l.assignment.trail l.self.pending;
 }
 
 abbrev pub decreases-visits : goal.decreases-visits

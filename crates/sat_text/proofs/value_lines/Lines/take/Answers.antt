@@ -1,4 +1,4 @@
-use Rattle.std.proofs.Common.{◌≡◌, ◌∙◌, ℕ, false, true, sym, ap}
+use Rattle.std.proofs.Common.{false, true, sym, ap}
 use Rattle.sat_text.specs.Values.{with_line}
 use Rattle.sat_text.specs.Stands.{ReaderView}
 use Rattle.sat_text.proofs.ValueNumbers.{line_told, goes_as, goes_same}

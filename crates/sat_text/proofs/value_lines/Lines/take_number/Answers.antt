@@ -1,6 +1,6 @@
-use Rattle.std.proofs.Common.{◌≡◌, ◌∙◌, ℕ, Bool, false, true, sym, ap, subst, refl}
-use Rattle.sat_text.specs.Values.{Told, with_number}
-use Rattle.sat_text.specs.Stands.{ReaderView, Holds, HasTold}
+use Rattle.std.proofs.Common.{◌∙◌, true, sym, ap, subst, refl}
+use Rattle.sat_text.specs.Values.{with_number}
+use Rattle.sat_text.specs.Stands.{ReaderView, Holds}
 use Rattle.sat_text.proofs.ValueNumbers.{ended_none, zero_ends, literal_goes, goes_none, goes_some}
 use Rattle.sat_text.proofs.value_lines.Lines.take_number.Goals as goal
 

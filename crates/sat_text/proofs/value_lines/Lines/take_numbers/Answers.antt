@@ -1,5 +1,5 @@
-use Rattle.std.proofs.Common.{◌≡◌, ◌∙◌, ℕ, sym, ap}
-use Rattle.sat_text.specs.Values.{Told, with_number}
+use Rattle.std.proofs.Common.{◌∙◌, sym, ap}
+use Rattle.sat_text.specs.Values.{with_number}
 use Rattle.sat_text.proofs.ValueNumbers.{from_words, words_over, words_bad, words_on, words_stop, goes_none, goes_some, went, went_not}
 use Rattle.sat_text.proofs.value_lines.Lines.take_numbers.Goals as goal
 

@@ -1,4 +1,4 @@
-use Rattle.std.proofs.Common.{◌≡◌, ◌∙◌, ◌&&◌, ℕ, Bool, sym, ap}
+use Rattle.std.proofs.Common.{◌∙◌, ◌&&◌, Bool, sym, ap}
 use Rattle.sat_text.specs.Values.{is_satisfiable}
 use Rattle.sat_text.proofs.ValueNumbers.{from_words, line_told, empty_told, comment_told, values_told, found_told, goes_some, goes_as}
 use Rattle.sat_text.proofs.value_lines.Lines.take_words.Goals as goal

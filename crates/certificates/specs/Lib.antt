@@ -1,4 +1,0 @@
-pub mod Known
-pub mod Certificate
-pub mod Proved
-pub mod Judged

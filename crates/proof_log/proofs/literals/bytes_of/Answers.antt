@@ -1,0 +1,11 @@
+-- bytes_of
+use Rattle.std.proofs.Common.{rules, ◌≡◌}
+use Rattle.proof_log.specs.own.Numbers.{steps_of}
+use Rattle.proof_log.proofs.LiteralLaws.{all_back}
+use Rattle.proof_log.proofs.literals.bytes_of.Goals as goal
+
+pub returns : goal.returns
+returns c =
+    let same : c.in_ok-exact.exact ≡ c.put_numbers.new.bytes.items = search rules in
+    let put : c.put_numbers.new.bytes.items ≡ steps_of 0 c.args.codes.now = search rules in
+    all_back c.args.codes.now c.put_numbers.new.bytes.items c.in_ok-exact.exact c.in_ok-put_numbers.ensures.small put same
