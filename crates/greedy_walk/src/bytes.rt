@@ -6,7 +6,7 @@ ghost use Rattle.greedy_walk.specs.Bytes.{most_within_of};
 use state_store::store::bytes_of;
 
 /// How many bytes a state takes in the queues of those who lead the walks.
-const QUEUE_BYTES: u64 = 72;
+const QUEUE_BYTES: u64 = 104;
 
 /// How many states of so many facts these bytes hold, with their places in the queues: 4,294,967,295 at most.
 pub fn most_within(facts: u32, bytes: u64) -> u32

@@ -12,4 +12,5 @@ mod shelves;
 mod sinks;
 mod tasks;
 mod turns;
+mod walks;
 mod watches;

@@ -1,6 +1,7 @@
 -- The verdict on the text of a proof: on its first line that does not follow, or is none, or is too long, or adds the empty clause.
 use Rattle.std.specs.Prelude.{ℕ, ◌+◌, Bool, List, [], ◌∷◌, ◌++◌, length, nat_lt, Option, Some, None, if◌then◌else◌}
 use Rattle.std.specs.List.{list_any}
+use Rattle.containers.specs.Limits.{certificate_bytes}
 use Rattle.clause_base.specs.Formula.{Cnf}
 use Rattle.clause_base.specs.Derivation.{learns_empty}
 use Rattle.sat_text.specs.Words.{words_of}
@@ -11,9 +12,9 @@ use Rattle.lrat_judge.specs.Follow.{Known, known_first, follow}
 use Rattle.lrat_judge.specs.declared.verdict.Verdict.{Verdict}
 use Rattle.lrat_judge.specs.declared.verdict.Verdict.TheVariants.{More, Refuted, Rejected, NotEmpty, Syntax, TooLong}
 
--- how many bytes a line may have, without its LF
+-- how many bytes a line may have, without its LF: as many as a certificate
 abbrev pub most_line : ℕ
-most_line = 16777216
+most_line = certificate_bytes
 
 -- what a line comes to: the judging ends with a verdict, or goes on with what is then known
 pub data Outcome : Type 0 where

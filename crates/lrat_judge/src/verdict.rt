@@ -2,6 +2,8 @@
 ghost use Rattle.std.specs.Prelude.{◌≡◌, length, nat_lt};
 ghost use Rattle.lrat_judge.specs.Verdicts.{most_line};
 
+use containers::limits::CERTIFICATE_BYTES;
+
 /// What is known of a proof after some of its text.
 #[derive(Clone, Copy, PartialEq, Eq)]
 pub enum Verdict {
@@ -31,8 +33,8 @@ pub enum Verdict {
     },
 }
 
-/// How many bytes a line of a proof may have, without its LF.
-pub const MOST_LINE: usize = 16_777_216;
+/// How many bytes a line of a proof may have, without its LF: as many as a certificate.
+pub const MOST_LINE: usize = CERTIFICATE_BYTES as usize;
 
 /// Whether a line, or the front of one, has more bytes than a line may have.
 pub(crate) fn is_long(bytes: &[u8]) -> bool

@@ -2,8 +2,11 @@
 //! one with the fewest unmet goals, and from the oldest of equal ones (best-first width search of width 1, Lipovetzky and Geffner
 //! 2017).
 //!
-//! `queue` has numbers by their keys, first in first out, and `proposer` what is proposed.
+//! `queue` has numbers by their keys, first in first out, `expanding` the states that are left, `seen` the facts that were true, and
+//! `proposer` what is proposed.
 #![tactic(auto)]
 
+pub mod expanding;
 pub mod proposer;
 pub mod queue;
+pub mod seen;

@@ -1,78 +1,51 @@
 //! What is proposed by novelty.
 
-use crate::queue::Queue;
+use crate::expanding::Expanding;
+use crate::seen::{Seen, unmet_in};
 use containers::memory::Memory;
 use gt_core::task::Task;
 use state_search::follow::{Offer, Proposer};
+use state_store::store::Store;
 use std::alloc::Global;
+use successors::trie::Trie;
 
-/// Which facts were true so far in a state with so many unmet goals, the states that are left, and the state whose actions are being
-/// proposed.
+/// Which facts were true so far in a state with so many unmet goals, and the states that are left. All memory is taken when it is made.
 #[derive(Drop)]
 pub struct Novelty {
-    facts: usize,
+    seen: Seen,
     goals: usize,
-    actions: u32,
-    seen: Vec<bool>,
-    left: Queue,
-    parent: u32,
-    act: u32,
-}
-
-/// How many literals of the goal do not hold in a state.
-fn unmet_in(task: &Task, state: &[bool]) -> usize {
-    let mut unmet = 0usize;
-    for lit in task.goal() {
-        let value = state.get((*lit / 2) as usize).is_some_and(|v| *v);
-        if value != (*lit % 2 == 0) {
-            unmet = unmet.saturating_add(1);
-        }
-    }
-    unmet
+    left: Expanding,
 }
 
 impl Novelty {
-    /// Nothing was seen of a task.
-    pub fn new(alloc: Global, task: &Task) -> Result<Novelty, Memory> {
-        let facts = task.facts() as usize;
+    /// Nothing was seen of a task. There is room for so many states.
+    pub fn new(alloc: Global, task: &Task, most: u32) -> Result<Novelty, Memory> {
         let goals = task.goal().len();
         let rows = goals.saturating_add(1);
-        let seen = vec![in alloc; false; rows.saturating_mul(facts)]?;
-        let left = Queue::new(alloc, rows.saturating_mul(2))?;
-        let actions = task.acts().len() as u32;
         Ok(Novelty {
-            facts,
+            seen: Seen::new(alloc, task, rows)?,
             goals,
-            actions,
-            seen,
-            left,
-            parent: 0,
-            act: actions,
+            left: Expanding::new(alloc, rows.saturating_mul(2), task.acts().len(), most)?,
         })
     }
 
-    /// Notes the facts of a state with so many unmet goals, and tells whether one is new.
-    fn note(&mut self, state: &[bool], unmet: usize) -> bool {
-        let mut new = false;
-        let row = unmet.saturating_mul(self.facts);
-        for fact in 0..state.len() {
-            if state[fact] {
-                if let Some(seen) = self.seen.get_mut(row.saturating_add(fact)) {
-                    if !*seen {
-                        *seen = true;
-                        new = true;
-                    }
-                }
-            }
-        }
-        new
+    /// Lets go of all that was seen. The room stays.
+    pub fn clear(&mut self) {
+        self.seen.clear();
+        self.left.clear();
     }
 }
 
 impl Proposer for Novelty {
-    fn entered(&mut self, task: &Task, number: u32, state: &[bool]) -> Result<(), Memory> {
-        let unmet = unmet_in(task, state);
-        let key = if self.note(state, unmet) {
+    fn entered(
+        &mut self,
+        task: &Task,
+        _trie: &Trie,
+        number: u32,
+        row: &[u64],
+    ) -> Result<(), Memory> {
+        let unmet = unmet_in(task, row);
+        let key = if self.seen.note(row, unmet) {
             unmet
         } else {
             unmet.saturating_add(self.goals).saturating_add(1)
@@ -80,16 +53,7 @@ impl Proposer for Novelty {
         self.left.push(key, number)
     }
 
-    fn next(&mut self) -> Option<Offer> {
-        if self.act >= self.actions {
-            self.parent = self.left.pop()?;
-            self.act = 0;
-        }
-        let act = self.act;
-        self.act = act.saturating_add(1);
-        Some(Offer {
-            parent: self.parent,
-            act,
-        })
+    fn next(&mut self, trie: &Trie, store: &Store) -> Option<Offer> {
+        self.left.next(trie, store)
     }
 }

@@ -7,7 +7,7 @@ use std::alloc::Global;
 const NONE: u32 = 4_294_967_295;
 
 /// For each key the first and the last of its numbers, for each number the one that comes after it, and a key below which there is no
-/// number.
+/// number. All memory is taken when the queue is made.
 #[derive(Drop)]
 pub struct Queue {
     firsts: Vec<u32>,
@@ -17,14 +17,26 @@ pub struct Queue {
 }
 
 impl Queue {
-    /// An empty queue of so many keys.
-    pub fn new(alloc: Global, keys: usize) -> Result<Queue, Memory> {
+    /// An empty queue of so many keys, with room for so many numbers.
+    pub fn new(alloc: Global, keys: usize, most: u32) -> Result<Queue, Memory> {
         Ok(Queue {
             firsts: vec![in alloc; NONE; keys]?,
             lasts: vec![in alloc; NONE; keys]?,
-            nexts: Vec::new(alloc),
+            nexts: Vec::with_capacity(alloc, most as usize)?,
             low: 0,
         })
+    }
+
+    /// Lets go of all numbers. The room stays.
+    pub fn clear(&mut self) {
+        for key in 0..self.firsts.len() {
+            self.firsts[key] = NONE;
+        }
+        for key in 0..self.lasts.len() {
+            self.lasts[key] = NONE;
+        }
+        self.nexts.clear();
+        self.low = 0;
     }
 
     /// Makes room for the number that comes after one.

@@ -1,9 +1,9 @@
 //! What the literals cost from a state, and a relaxed plan.
 
 use crate::relaxation::Relaxation;
-use containers::ListOf;
 use containers::memory::Memory;
 use std::alloc::Global;
+use successors::row::tells;
 
 /// More than any cost.
 pub const NEVER: u32 = 4_294_967_295;
@@ -11,17 +11,27 @@ pub const NEVER: u32 = 4_294_967_295;
 /// The greatest cost that is told apart.
 const MOST: u32 = 100_000;
 
-/// For each literal its cost and the operator that makes it at this cost, for each operator how many of its literals have no cost yet
-/// and the sum of the others, the literals by cost, and which are in the relaxed plan.
+/// No literal.
+const NONE: u32 = 4_294_967_295;
+
+/// For each literal its cost, the operator that makes it at this cost, and whether it is one of the goal; for each operator how many
+/// literals it needs, how many of them have no cost yet, and the sum of the others; the literals by cost, in chains; which are in the
+/// relaxed plan, and which of these its actions make. All memory is taken when it is made.
 #[derive(Drop)]
 pub struct Costs {
-    alloc: Global,
     cost: Vec<u32>,
     maker: Vec<u32>,
+    is_goal: Vec<bool>,
+    counts: Vec<u32>,
     left: Vec<u32>,
     sum: Vec<u32>,
-    buckets: Vec<ListOf<u32>>,
+    heads: Vec<u32>,
+    top: usize,
+    lits: Vec<u32>,
+    nexts: Vec<u32>,
     marked: Vec<bool>,
+    list: Vec<u32>,
+    made: Vec<u32>,
 }
 
 /// The value at a place, or 0.
@@ -39,12 +49,6 @@ fn put(values: &mut [u32], place: usize, value: u32) {
     }
 }
 
-/// The literal of a fact with a value.
-fn literal_of(fact: usize, value: bool) -> u32 {
-    let first = 2 * fact.min(1_000_000_000) as u32;
-    if value { first } else { first + 1 }
-}
-
 /// Gives all places one value.
 fn fill(values: &mut [u32], value: u32) {
     for place in 0..values.len() {
@@ -59,11 +63,40 @@ pub(crate) fn unmark(marks: &mut [bool]) {
     }
 }
 
-/// Empties the lists.
-fn empty(lists: &mut [ListOf<u32>]) {
-    for place in 0..lists.len() {
-        lists[place].clear();
+/// Writes values over others.
+fn write(values: &mut [u32], from: &[u32]) {
+    for place in 0..values.len() {
+        values[place] = at(from, place);
     }
+}
+
+/// How many literals each operator needs.
+fn counts_of(alloc: Global, all: &Relaxation) -> Result<Vec<u32>, Memory> {
+    let mut counts = Vec::new(alloc);
+    for op in 0..all.needs.len() {
+        counts.push(all.needs.at(op).len().min(1_000_000) as u32)?;
+    }
+    Ok(counts)
+}
+
+/// How many literals all operators make.
+fn made_by(all: &Relaxation) -> usize {
+    let mut made = 0usize;
+    for op in 0..all.makes.len() {
+        made = made.saturating_add(all.makes.at(op).len());
+    }
+    made
+}
+
+/// Which literals are those of the goal.
+fn goals_of(alloc: Global, all: &Relaxation) -> Result<Vec<bool>, Memory> {
+    let mut is_goal = vec![in alloc; false; all.users.len()]?;
+    for lit in &all.goal {
+        if let Some(is) = is_goal.get_mut(*lit as usize) {
+            *is = true;
+        }
+    }
+    Ok(is_goal)
 }
 
 impl Costs {
@@ -71,45 +104,49 @@ impl Costs {
     pub fn new(alloc: Global, all: &Relaxation) -> Result<Costs, Memory> {
         let literals = all.users.len();
         let ops = all.acts.len();
+        let chained = literals.saturating_add(made_by(all));
         Ok(Costs {
-            alloc,
             cost: vec![in alloc; NEVER; literals]?,
             maker: vec![in alloc; NEVER; literals]?,
+            is_goal: goals_of(alloc, all)?,
+            counts: counts_of(alloc, all)?,
             left: vec![in alloc; 0; ops]?,
             sum: vec![in alloc; 0; ops]?,
-            buckets: Vec::new(alloc),
+            heads: vec![in alloc; NONE; MOST as usize + 1]?,
+            top: 0,
+            lits: Vec::with_capacity(alloc, chained)?,
+            nexts: Vec::with_capacity(alloc, chained)?,
             marked: vec![in alloc; false; literals]?,
+            list: Vec::with_capacity(alloc, literals)?,
+            made: Vec::with_capacity(alloc, literals)?,
         })
     }
 
     /// Nothing is reached.
-    fn clear(&mut self, all: &Relaxation) {
+    fn clear(&mut self) {
         fill(&mut self.cost, NEVER);
         fill(&mut self.sum, 0);
-        unmark(&mut self.marked);
-        empty(&mut self.buckets);
-        for op in 0..all.needs.len() {
-            put(
-                &mut self.left,
-                op,
-                all.needs.at(op).len().min(1_000_000) as u32,
-            );
+        write(&mut self.left, &self.counts);
+        for key in 0..self.top.saturating_add(1) {
+            put(&mut self.heads, key, NONE);
         }
+        self.top = 0;
+        self.lits.clear();
+        self.nexts.clear();
     }
 
     /// A literal is made at a cost, where it had none or a greater one.
     fn reach(&mut self, lit: u32, cost: u32, maker: u32) -> Result<(), Memory> {
-        if lit as usize >= self.cost.len() || cost >= at(&self.cost, lit as usize) {
+        if cost >= at(&self.cost, lit as usize) {
             return Ok(());
         }
         put(&mut self.cost, lit as usize, cost);
         put(&mut self.maker, lit as usize, maker);
-        for _bucket in self.buckets.len()..cost as usize + 1 {
-            self.buckets.push(ListOf::new(self.alloc))?;
-        }
-        if let Some(bucket) = self.buckets.get_mut(cost as usize) {
-            bucket.push(lit)?;
-        }
+        let number = self.lits.len().min(4_294_967_295) as u32;
+        self.lits.push(lit)?;
+        self.nexts.push(at(&self.heads, cost as usize))?;
+        put(&mut self.heads, cost as usize, number);
+        self.top = self.top.max(cost as usize);
         Ok(())
     }
 
@@ -143,40 +180,51 @@ impl Costs {
         Ok(())
     }
 
-    /// The literals of one cost are settled.
-    fn settle_all(&mut self, all: &Relaxation, cost: u32) -> Result<(), Memory> {
-        let many = match self.buckets.get(cost as usize) {
-            Some(bucket) => bucket.as_slice().len(),
-            None => 0,
-        };
-        for place in 0..many {
-            let lit = match self.buckets.get(cost as usize) {
-                Some(bucket) => at(bucket.as_slice(), place),
-                None => NEVER,
-            };
+    /// The literals of one cost are settled. The result is how many of the goal are among them.
+    fn settle_all(&mut self, all: &Relaxation, cost: u32) -> Result<usize, Memory> {
+        let mut goals = 0usize;
+        let mut number = at(&self.heads, cost as usize);
+        for _turn in 0..self.lits.len() {
+            if number == NONE {
+                break;
+            }
+            let lit = at(&self.lits, number as usize);
             if at(&self.cost, lit as usize) == cost {
+                if self.is_goal.get(lit as usize) == Some(&true) {
+                    goals = goals.saturating_add(1);
+                }
                 self.settle(all, lit, cost)?;
+            }
+            number = at(&self.nexts, number as usize);
+        }
+        Ok(goals)
+    }
+
+    /// What costs nothing is reached: the literals that hold in the state of a row, and what is made without a need.
+    fn begin(&mut self, all: &Relaxation, row: &[u64]) -> Result<(), Memory> {
+        for lit in 0..self.cost.len().min(4_294_967_295) {
+            if tells(row, lit as u32) {
+                self.reach(lit as u32, 0, NEVER)?;
+            }
+        }
+        for op in 0..self.counts.len().min(4_294_967_295) {
+            if at(&self.counts, op) == 0 {
+                self.fire(all, op as u32)?;
             }
         }
         Ok(())
     }
 
-    /// The costs from a state: the sum over the goal, or `NEVER`.
-    pub fn compute(&mut self, all: &Relaxation, state: &[bool]) -> Result<u32, Memory> {
-        self.clear(all);
-        for fact in 0..state.len() {
-            self.reach(literal_of(fact, state[fact]), 0, NEVER)?;
-        }
-        for op in 0..all.needs.len() {
-            if all.needs.at(op).is_empty() && op < 4_294_967_295 {
-                self.fire(all, op as u32)?;
-            }
-        }
+    /// The costs from the state of a row, as far as the goal asks for: their sum over the goal, or `NEVER`.
+    pub fn compute(&mut self, all: &Relaxation, row: &[u64]) -> Result<u32, Memory> {
+        self.clear();
+        self.begin(all, row)?;
+        let mut goals = all.goal.len();
         for cost in 0..MOST {
-            if cost as usize >= self.buckets.len() {
+            if cost as usize > self.top || goals == 0 {
                 break;
             }
-            self.settle_all(all, cost)?;
+            goals = goals.saturating_sub(self.settle_all(all, cost)?);
         }
         Ok(self.of_goal(all))
     }
@@ -195,36 +243,44 @@ impl Costs {
     }
 
     /// Takes a literal into the relaxed plan, if it is not there.
-    fn mark(&mut self, lit: u32, list: &mut Vec<u32>) -> Result<(), Memory> {
+    fn mark(&mut self, lit: u32) -> Result<(), Memory> {
         if let Some(marked) = self.marked.get_mut(lit as usize) {
             if !*marked {
                 *marked = true;
-                list.push(lit)?;
+                self.list.push(lit)?;
             }
         }
         Ok(())
     }
 
+    /// After `plan`: the literals that the actions of the relaxed plan make.
+    pub fn made(&self) -> &[u32] {
+        &self.made
+    }
+
     /// After `compute` with a cost: marks the actions of a relaxed plan.
     pub fn plan(&mut self, all: &Relaxation, used: &mut [bool]) -> Result<(), Memory> {
-        let mut list = Vec::new(self.alloc);
+        unmark(&mut self.marked);
+        self.list.clear();
+        self.made.clear();
         for lit in &all.goal {
-            self.mark(*lit, &mut list)?;
+            self.mark(*lit)?;
         }
         for place in 0..self.cost.len() {
-            if place >= list.len() {
+            if place >= self.list.len() {
                 break;
             }
-            let lit = at(&list, place) as usize;
+            let lit = at(&self.list, place) as usize;
             let op = at(&self.maker, lit) as usize;
             if at(&self.cost, lit) == 0 || op >= all.needs.len() {
                 continue;
             }
+            self.made.push(at(&self.list, place))?;
             if let Some(mark) = used.get_mut(at(&all.acts, op) as usize) {
                 *mark = true;
             }
             for needed in all.needs.at(op) {
-                self.mark(*needed, &mut list)?;
+                self.mark(*needed)?;
             }
         }
         Ok(())

@@ -3,10 +3,11 @@
 //! (Helmert 2006, with a second queue).
 //!
 //! `relaxation` has the operators, `costs` the costs from a state and a relaxed plan, `open` the actions of states by cost, and
-//! `proposer` what is proposed.
+//! `proposer` what is proposed. `reached` proposes by novelty and relaxed plans together.
 #![tactic(auto)]
 
 pub mod costs;
 pub mod open;
 pub mod proposer;
+pub mod reached;
 pub mod relaxation;

@@ -9,11 +9,11 @@ use Rattle.gt_core.specs.Execution.{Runs, IsGoal, next_values}
 use Rattle.state_store.specs.Store.{Stored, with_state}
 use Rattle.state_store.proofs.published.PushedLaw.{pushed_at, pushed_before, pushed_last}
 use Rattle.search_laws.specs.Search.{IsListed, AreDepths}
-use Rattle.state_search.specs.own.Walk.{IsWalk, IsPassed}
+use Rattle.state_search.specs.own.Walk.{IsWalk, IsPassed, none_tried}
 use Rattle.state_search.specs.own.Breadth.{AreFrom, LeadsNear, IsBreadth, IsFound}
-use Rattle.state_search.proofs.WalkLaw.{walk_push, one_more, same_state, earlier_passed, number_before, number_last}
+use Rattle.state_search.proofs.WalkLaw.{walk_push, one_more, same_state, earlier_passed, passed_skipped, number_before, number_last}
 
-module _ (task : Task) (st : Stored) (number act : ℕ) (source : List Bool) (breadth : IsBreadth task st number act) (at : slice_get st.states number ≡ Some source) where
+module _ (task : Task) (st : Stored) (number act : ℕ) (tried more : ℕ → Type 0) (one : (a : ℕ) → more a → tried a ⊎ (a ≡ act)) (source : List Bool) (breadth : IsBreadth task st number tried) (at : slice_get st.states number ≡ Some source) where
   below : number < length st.states
   below = slice_get_within st.states number source at
 
@@ -21,9 +21,9 @@ module _ (task : Task) (st : Stored) (number act : ℕ) (source : List Bool) (br
   depth k = slice_index breadth.depths k
 
   -- the action leads near, if it runs
-  passed : (Runs task (state_of source) act → LeadsNear task st breadth.depths number source act) → (k : ℕ) (s : List Bool) (a : ℕ) → IsPassed number (act + 1) k a → slice_get st.states k ≡ Some s → Runs task (state_of s) a → LeadsNear task st breadth.depths k s a
+  passed : (Runs task (state_of source) act → LeadsNear task st breadth.depths number source act) → (k : ℕ) (s : List Bool) (a : ℕ) → IsPassed number more k a → slice_get st.states k ≡ Some s → Runs task (state_of s) a → LeadsNear task st breadth.depths k s a
   passed leads k s a is there runs =
-      elim (one_more number act k a is) [
+      elim (one_more number act tried more one k a is) [
         | inl before ↦ breadth.closed k s a before there runs
         | inr h ↦
             let e : source ≡ s = same_state st.states number source s at (ap (slice_get st.states) (sym h.0) ∙ there) in
@@ -33,7 +33,7 @@ module _ (task : Task) (st : Stored) (number act : ℕ) (source : List Bool) (br
             (subst (λ (t : List Bool). LeadsNear task st breadth.depths number t act) e (leads own)))
       ]
 
-  with_leads : (Runs task (state_of source) act → LeadsNear task st breadth.depths number source act) → IsBreadth task st number (act + 1)
+  with_leads : (Runs task (state_of source) act → LeadsNear task st breadth.depths number source act) → IsBreadth task st number more
   with_leads leads = record {
     walk = breadth.walk;
     depths = breadth.depths;
@@ -45,11 +45,11 @@ module _ (task : Task) (st : Stored) (number act : ℕ) (source : List Bool) (br
   }
 
   -- an action that cannot run
-  pub unable : (Runs task (state_of source) act → ⊥) → IsBreadth task st number (act + 1)
+  pub unable : (Runs task (state_of source) act → ⊥) → IsBreadth task st number more
   unable not = with_leads (λ runs. absurd (not runs))
 
   -- an action to a known state
-  pub known : IsListed st.states (next_values task (state_of source) act) → IsBreadth task st number (act + 1)
+  pub known : IsListed st.states (next_values task (state_of source) act) → IsBreadth task st number more
   known listed = with_leads (λ runs. (listed.0, listed.1, breadth.near listed.0 (slice_get_within st.states listed.0 (next_values task (state_of source) act) listed.1) below))
 
   module _ (runs : Runs task (state_of source) act) where
@@ -133,14 +133,14 @@ module _ (task : Task) (st : Stored) (number act : ℕ) (source : List Bool) (br
         let its = old_depth number below in
         (n, pushed_last st.states new, omega (arith, own, its))
 
-    closed_now : (k : ℕ) (s : List Bool) (a : ℕ) → IsPassed number (act + 1) k a → slice_get now.states k ≡ Some s → Runs task (state_of s) a → LeadsNear task now deep k s a
-    closed_now k s a is there can = by (pushed_at st.states new s k there) (one_more number act k a is)
+    closed_now : (k : ℕ) (s : List Bool) (a : ℕ) → IsPassed number more k a → slice_get now.states k ≡ Some s → Runs task (state_of s) a → LeadsNear task now deep k s a
+    closed_now k s a is there can = by (pushed_at st.states new s k there) (one_more number act tried more one k a is)
       where
-        before : IsPassed number (act + 1) k a → k < n
+        before : IsPassed number more k a → k < n
         before (inl lt) = omega (arith, lt, below)
         before (inr h) = let e = h.0 in omega (arith, e, below)
 
-        by : (slice_get st.states k ≡ Some s) ⊎ ((k ≡ n) × (s ≡ new)) → IsPassed number act k a ⊎ ((k ≡ number) × (a ≡ act)) → LeadsNear task now deep k s a
+        by : (slice_get st.states k ≡ Some s) ⊎ ((k ≡ n) × (s ≡ new)) → IsPassed number tried k a ⊎ ((k ≡ number) × (a ≡ act)) → LeadsNear task now deep k s a
         by (inr last) which = let e = last.0 in let lt = before is in absurd (omega (arith, e, lt))
         by (inl old) (inl passed_before) = still_near k s a (slice_get_within st.states k s old) (breadth.closed k s a passed_before old can)
         by (inl old) (inr own) =
@@ -149,7 +149,7 @@ module _ (task : Task) (st : Stored) (number act : ℕ) (source : List Bool) (br
             (subst (λ (b : ℕ). LeadsNear task now deep number s b) (sym own.1) (subst (λ (t : List Bool). LeadsNear task now deep number t act) e own_near))
 
     -- an action to a new state that is no goal
-    pub entered : (IsGoal task (state_of new) → ⊥) → IsBreadth task now number (act + 1)
+    pub entered : (IsGoal task (state_of new) → ⊥) → IsBreadth task now number more
     entered not = record {
       walk = walk_push task st number act source breadth.walk at runs;
       depths = deep;
@@ -221,7 +221,7 @@ module _ (task : Task) (st : Stored) (number act : ℕ) (source : List Bool) (br
   -- ---- what the loop over the actions keeps
 
   abbrev Kept : Stored → Type 0
-  Kept after = IsBreadth task after number (act + 1) × (slice_get after.states number ≡ Some source) × (after.most ≡ st.most)
+  Kept after = IsBreadth task after number more × (slice_get after.states number ≡ Some source) × (after.most ≡ st.most)
 
   pub kept_unable : (after : Stored) → after ≡ st → (Runs task (state_of source) act → ⊥) → Kept after
   kept_unable after same not = subst Kept (sym same) (unable not, at, refl)
@@ -232,20 +232,33 @@ module _ (task : Task) (st : Stored) (number act : ℕ) (source : List Bool) (br
   pub kept_entered : (after : Stored) → (runs : Runs task (state_of source) act) → after ≡ with_state st (next_values task (state_of source) act) number act → (IsGoal task (state_of (next_values task (state_of source) act)) → ⊥) → Kept after
   kept_entered after runs same not = subst Kept (sym same) (entered runs not, pushed_before st.states (next_values task (state_of source) act) source number at, refl)
 
+module _ (task : Task) (st : Stored) (number : ℕ) (tried : ℕ → Type 0) (source : List Bool) (breadth : IsBreadth task st number tried) (at : slice_get st.states number ≡ Some source) where
+  -- actions that cannot run in the state that is swept are as good as tried
+  pub breadth_skipped : (more : ℕ → Type 0) → ((a : ℕ) → more a → tried a ⊎ (Runs task (state_of source) a → ⊥)) → IsBreadth task st number more
+  breadth_skipped more which = record {
+    walk = breadth.walk;
+    depths = breadth.depths;
+    from = breadth.from;
+    rising = breadth.rising;
+    near = breadth.near;
+    closed = λ k s a is there runs. breadth.closed k s a (passed_skipped task st number tried more source at which k s a is there runs) there runs;
+    no_goal = breadth.no_goal;
+  }
+
   -- a state all of whose actions were tried
-  pub all_tried : length task.actions ≤ act → IsBreadth task st (number + 1) 0
+  pub all_tried : ((a : ℕ) → a < length task.actions → tried a) → IsBreadth task st (number + 1) none_tried
   all_tried all = record {
     walk = breadth.walk;
     depths = breadth.depths;
     from = breadth.from;
     rising = breadth.rising;
-    near = λ k lt number_lt. (let le = breadth.near k lt below in let r = breadth.rising number (number + 1) (omega arith) number_lt in omega (arith, le, r));
-    closed = λ k s a is there runs. breadth.closed k s a (earlier_passed number act (length task.actions) k a is runs.action all) there runs;
+    near = λ k lt number_lt. (let le = breadth.near k lt (slice_get_within st.states number source at) in let r = breadth.rising number (number + 1) (omega arith) number_lt in omega (arith, le, r));
+    closed = λ k s a is there runs. breadth.closed k s a (earlier_passed number tried k a is (all a runs.action)) there runs;
     no_goal = breadth.no_goal;
   }
 
 -- a store with the initial state alone, which is no goal
-pub breadth_first : (task : Task) (st : Stored) → IsWalk task st → st.states ≡ task.initial ∷ [] → st.parents ≡ 0 ∷ [] → (IsGoal task (state_of task.initial) → ⊥) → IsBreadth task st 0 0
+pub breadth_first : (task : Task) (st : Stored) → IsWalk task st → st.states ≡ task.initial ∷ [] → st.parents ≡ 0 ∷ [] → (IsGoal task (state_of task.initial) → ⊥) → IsBreadth task st 0 none_tried
 breadth_first task st walk states parents not = record {
   walk = walk;
   depths = 0 ∷ [];
@@ -266,6 +279,6 @@ breadth_first task st walk states parents not = record {
       );
 }
   where
-    none : (k a : ℕ) → IsPassed 0 0 k a → ⊥
+    none : (k a : ℕ) → IsPassed 0 none_tried k a → ⊥
     none k a (inl lt) = omega (arith, lt)
-    none k a (inr h) = let l = h.1 in omega (arith, l)
+    none k a (inr h) = h.1

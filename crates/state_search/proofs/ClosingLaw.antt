@@ -8,10 +8,10 @@ use Rattle.gt_core.specs.Execution.{Runs, IsGoal, next_values}
 use Rattle.state_store.specs.Store.{Stored, with_state}
 use Rattle.state_store.proofs.published.PushedLaw.{pushed_at, pushed_before, pushed_last}
 use Rattle.search_laws.specs.Search.{IsListed, IsClosedList}
-use Rattle.state_search.specs.own.Walk.{IsWalk, HasNoGoal, IsPassed}
+use Rattle.state_search.specs.own.Walk.{IsWalk, HasNoGoal, IsPassed, none_tried}
 use Rattle.state_search.specs.own.Closing.{IsClosing, IsGoalLast}
 use Rattle.state_search.specs.own.Breadth.{IsBreadth}
-use Rattle.state_search.proofs.WalkLaw.{walk_push, one_more, same_state, earlier_passed}
+use Rattle.state_search.proofs.WalkLaw.{walk_push, one_more, same_state, earlier_passed, passed_skipped}
 
 -- what is listed is listed in a longer list
 listed_more : (states : List (List Bool)) (new s : List Bool) → IsListed states s → IsListed (states ++ new ∷ []) s
@@ -33,7 +33,7 @@ pub no_goal_more : (task : Task) (states : List (List Bool)) (new : List Bool) �
 no_goal_more task states new none not k s there goal =
     elim (pushed_at states new s k there) [ inl old ↦ none k s old goal | inr last ↦ not (subst (λ (t : List Bool). IsGoal task (state_of t)) last.1 goal) ]
 
-module _ (task : Task) (st : Stored) (number act : ℕ) (source : List Bool) (closing : IsClosing task st number act) (at : slice_get st.states number ≡ Some source) where
+module _ (task : Task) (st : Stored) (number act : ℕ) (tried more : ℕ → Type 0) (one : (a : ℕ) → more a → tried a ⊎ (a ≡ act)) (source : List Bool) (closing : IsClosing task st number tried) (at : slice_get st.states number ≡ Some source) where
   abbrev new : List Bool
   new = next_values task (state_of source) act
 
@@ -45,15 +45,15 @@ module _ (task : Task) (st : Stored) (number act : ℕ) (source : List Bool) (cl
       subst (λ (b : ℕ). IsListed states (next_values task (state_of s) b)) (sym a_is)
       (subst (λ (t : List Bool). IsListed states (next_values task (state_of t) act)) e (leads can))
 
-  with_leads : (Runs task (state_of source) act → IsListed st.states new) → IsClosing task st number (act + 1)
+  with_leads : (Runs task (state_of source) act → IsListed st.states new) → IsClosing task st number more
   with_leads leads = record {
     walk = closing.walk;
-    closed = λ k s a is there runs. elim (one_more number act k a is) [ inl before ↦ closing.closed k s a before there runs | inr h ↦ own st.states k a s h.0 h.1 there runs leads ];
+    closed = λ k s a is there runs. elim (one_more number act tried more one k a is) [ inl before ↦ closing.closed k s a before there runs | inr h ↦ own st.states k a s h.0 h.1 there runs leads ];
     no_goal = closing.no_goal;
   }
 
   abbrev Kept : Stored → Type 0
-  Kept after = IsClosing task after number (act + 1)
+  Kept after = IsClosing task after number more
 
   pub closing_unable : (after : Stored) → after ≡ st → (Runs task (state_of source) act → ⊥) → Kept after
   closing_unable after same not = subst Kept (sym same) (with_leads (λ runs. absurd (not runs)))
@@ -65,14 +65,14 @@ module _ (task : Task) (st : Stored) (number act : ℕ) (source : List Bool) (cl
     abbrev now : Stored
     now = with_state st new number act
 
-    before : (k a : ℕ) → IsPassed number (act + 1) k a → k < length st.states
+    before : (k a : ℕ) → IsPassed number more k a → k < length st.states
     before k a (inl lt) = let b = slice_get_within st.states number source at in omega (arith, lt, b)
     before k a (inr h) = let e = h.0 in let b = slice_get_within st.states number source at in omega (arith, e, b)
 
-    closed_now : (k : ℕ) (s : List Bool) (a : ℕ) → IsPassed number (act + 1) k a → slice_get now.states k ≡ Some s → Runs task (state_of s) a → IsListed now.states (next_values task (state_of s) a)
-    closed_now k s a is there can = by (pushed_at st.states new s k there) (one_more number act k a is)
+    closed_now : (k : ℕ) (s : List Bool) (a : ℕ) → IsPassed number more k a → slice_get now.states k ≡ Some s → Runs task (state_of s) a → IsListed now.states (next_values task (state_of s) a)
+    closed_now k s a is there can = by (pushed_at st.states new s k there) (one_more number act tried more one k a is)
       where
-        by : (slice_get st.states k ≡ Some s) ⊎ ((k ≡ length st.states) × (s ≡ new)) → IsPassed number act k a ⊎ ((k ≡ number) × (a ≡ act)) → IsListed now.states (next_values task (state_of s) a)
+        by : (slice_get st.states k ≡ Some s) ⊎ ((k ≡ length st.states) × (s ≡ new)) → IsPassed number tried k a ⊎ ((k ≡ number) × (a ≡ act)) → IsListed now.states (next_values task (state_of s) a)
         by (inr last) which = let e = last.0 in let lt = before k a is in absurd (omega (arith, e, lt))
         by (inl old) (inl passed) = listed_more st.states new (next_values task (state_of s) a) (closing.closed k s a passed old can)
         by (inl old) (inr h) = own now.states k a s h.0 h.1 old can (λ r. (length st.states, pushed_last st.states new))
@@ -84,16 +84,25 @@ module _ (task : Task) (st : Stored) (number act : ℕ) (source : List Bool) (cl
     pub closing_found : (after : Stored) → after ≡ now → IsGoal task (state_of new) → IsGoalLast task after
     closing_found after same goal = subst (IsGoalLast task) (sym same) (goal_last task st new number act (walk_push task st number act source closing.walk at runs) goal)
 
+module _ (task : Task) (st : Stored) (number : ℕ) (tried : ℕ → Type 0) (closing : IsClosing task st number tried) where
   -- a state all of whose actions were tried
-  pub closing_tried : length task.actions ≤ act → IsClosing task st (number + 1) 0
+  pub closing_tried : ((a : ℕ) → a < length task.actions → tried a) → IsClosing task st (number + 1) none_tried
   closing_tried all = record {
     walk = closing.walk;
-    closed = λ k s a is there runs. closing.closed k s a (earlier_passed number act (length task.actions) k a is runs.action all) there runs;
+    closed = λ k s a is there runs. closing.closed k s a (earlier_passed number tried k a is (all a runs.action)) there runs;
+    no_goal = closing.no_goal;
+  }
+
+  -- actions that cannot run in the state that is swept are as good as tried
+  pub closing_skipped : (more : ℕ → Type 0) (source : List Bool) → slice_get st.states number ≡ Some source → ((a : ℕ) → more a → tried a ⊎ (Runs task (state_of source) a → ⊥)) → IsClosing task st number more
+  closing_skipped more source at which = record {
+    walk = closing.walk;
+    closed = λ k s a is there runs. closing.closed k s a (passed_skipped task st number tried more source at which k s a is there runs) there runs;
     no_goal = closing.no_goal;
   }
 
 -- all states swept: a closed list
-pub closed_list : (task : Task) (st : Stored) (number : ℕ) → IsClosing task st number 0 → length st.states ≤ number → IsClosedList task st.states
+pub closed_list : (task : Task) (st : Stored) (number : ℕ) → IsClosing task st number none_tried → length st.states ≤ number → IsClosedList task st.states
 closed_list task st number closing all = record {
   initial = (0, closing.walk.tree.first);
   next = λ s a listed runs. (let lt = slice_get_within st.states listed.0 s listed.1 in closing.closed listed.0 s a (inl (omega (arith, lt, all))) listed.1 runs);
@@ -101,16 +110,16 @@ closed_list task st number closing all = record {
 }
 
 -- nothing swept so far
-pub closing_begins : (task : Task) (st : Stored) → IsWalk task st → HasNoGoal task st.states → IsClosing task st 0 0
+pub closing_begins : (task : Task) (st : Stored) → IsWalk task st → HasNoGoal task st.states → IsClosing task st 0 none_tried
 closing_begins task st walk none = record { walk = walk; closed = λ k s a is there runs. absurd (nothing k a is); no_goal = none }
   where
-    nothing : (k a : ℕ) → IsPassed 0 0 k a → ⊥
+    nothing : (k a : ℕ) → IsPassed 0 none_tried k a → ⊥
     nothing k a (inl lt) = omega (arith, lt)
-    nothing k a (inr h) = let l = h.1 in omega (arith, l)
+    nothing k a (inr h) = h.1
 
 -- what is closed breadth first is closed
-pub closing_of : (task : Task) (st : Stored) (number act : ℕ) → IsBreadth task st number act → IsClosing task st number act
-closing_of task st number act breadth = record {
+pub closing_of : (task : Task) (st : Stored) (number : ℕ) (tried : ℕ → Type 0) → IsBreadth task st number tried → IsClosing task st number tried
+closing_of task st number tried breadth = record {
   walk = breadth.walk;
   closed = λ k s a is there runs. (let leads = breadth.closed k s a is there runs in (leads.0, leads.1));
   no_goal = breadth.no_goal;

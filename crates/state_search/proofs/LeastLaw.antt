@@ -12,7 +12,7 @@ use Rattle.state_store.specs.Distinct.{AreDistinct}
 use Rattle.search_laws.specs.Search.{ClosedListIsNoPlan, DepthsHaveNoShorter}
 use Rattle.search_laws.specs.Tree.{TreeIsReached}
 use Rattle.state_search.specs.Answer.{AreEntered, HasNoShorter}
-use Rattle.state_search.specs.own.Walk.{IsWalk}
+use Rattle.state_search.specs.own.Walk.{IsWalk, none_tried}
 use Rattle.state_search.specs.own.Breadth.{AreFrom, IsFound}
 use Rattle.state_search.specs.own.Closing.{IsClosing, IsGoalLast}
 use Rattle.state_search.proofs.WalkLaw.{same_state}
@@ -35,7 +35,7 @@ none_shorter task st last n lawful law found is long ks run =
     ]
 
 -- where all states were swept no actions are a run to the goal
-pub none_at_all : (task : Task) (st : Stored) (number : ℕ) → is_task task ≡ true → ClosedListIsNoPlan → IsClosing task st number 0 → length st.states ≤ number → HasNoRun task
+pub none_at_all : (task : Task) (st : Stored) (number : ℕ) → is_task task ≡ true → ClosedListIsNoPlan → IsClosing task st number none_tried → length st.states ≤ number → HasNoRun task
 none_at_all task st number lawful law closing all ks run = law task st.states lawful (closed_list task st number closing all) ks run.runs run.reaches
 
 pub none_hoped : (task : Task) → task.hopeless ≡ true → HasNoRun task

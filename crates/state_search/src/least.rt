@@ -7,8 +7,9 @@ ghost use Rattle.std.specs.Prelude.{◌<◌, IfOk};
 ghost use Rattle.state_search.specs.Answer.{IsAnswer, IsLeast};
 
 use crate::answer::{Actions, Answer, End, answer_of};
+use crate::room::Room;
 use crate::sweep::sweep_all;
-use crate::walk::{first_of, is_goal};
+use crate::walk::{begin, is_goal};
 use containers::memory::Memory;
 use gt_core::task::Task;
 use std::alloc::Global;
@@ -27,10 +28,18 @@ pub fn least(alloc: Global, task: &Task, most: u32) -> Result<Answer, Memory>
             end: End::NoPlan,
         });
     }
-    let mut store = first_of(alloc, task, most)?;
+    let mut room = Room::new(alloc, task, most)?;
+    begin(task, &mut room.store, &room.first, most);
     if is_goal(task, task.init()) {
-        return Ok(answer_of(task, &store, End::Plan(Actions::new(alloc))));
+        return Ok(answer_of(task, &room.store, End::Plan(Actions::new(alloc))));
     }
-    let end = sweep_all(alloc, task, &mut store)?;
-    Ok(answer_of(task, &store, end))
+    let end = sweep_all(
+        alloc,
+        task,
+        &room.trie,
+        &mut room.store,
+        &mut room.before,
+        &mut room.after,
+    )?;
+    Ok(answer_of(task, &room.store, end))
 }

@@ -9,7 +9,7 @@ use Rattle.std.proofs.lemmas.Nat.Bits.{bit_at-suc, bit_at_lowest}
 use mir.Val.{bool_byte}
 use Rattle.bit_sets.specs.Rows.{row_has, word_has}
 use Rattle.bit_sets.proofs.published.WordLaw.{zero_has}
-use Rattle.state_store.specs.own.Packed.{number_of, packed, unpacked, width_of, IsPacked}
+use Rattle.state_store.specs.Packed.{number_of, packed, unpacked, width_of, IsPacked}
 
 number_less : (values : List Bool) → number_of values < 2 ^ length values
 number_less [] = omega arith
@@ -49,7 +49,7 @@ length-packed zero values = refl
 length-packed (suc n) values = ap suc (length-packed n (drop 64 values))
 
 -- the bits of a row are the truth values
-packed_has : (n : ℕ) (values : List Bool) (k : ℕ) → k < 64 * n → row_has (packed n values) k ≡ get_or values k false
+pub packed_has : (n : ℕ) (values : List Bool) (k : ℕ) → k < 64 * n → row_has (packed n values) k ≡ get_or values k false
 packed_has zero values k lt = absurd (omega (arith, lt))
 packed_has (suc n) values k lt = by (cases_lt k 64) (packed_has n (drop 64 values))
   where

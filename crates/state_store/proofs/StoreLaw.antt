@@ -3,7 +3,7 @@ use Rattle.std.proofs.Common.{arith, ◌≡◌, ℕ, zero, suc, ◌+◌, ◌<◌
 use Rattle.std.specs.Prelude.{slice_get}
 use Rattle.std.specs.List.{AllByRecursion}
 use Rattle.std.proofs.lemmas.Option.{slice_get_within}
-use Rattle.state_store.specs.own.Packed.{packed, unpacked, width_of, IsPacked}
+use Rattle.state_store.specs.Packed.{packed, unpacked, width_of, IsPacked}
 use Rattle.state_store.specs.declared.table.Node.{Node}
 use Rattle.state_store.specs.declared.table.Spot.{Spot}
 use Rattle.state_store.specs.declared.table.Spot.TheVariants.{Known, Alone, Beside}
@@ -13,7 +13,7 @@ use Rattle.state_store.specs.own.Kept.{AreKept, IsKept}
 use Rattle.state_store.specs.Store.{IsAbsent}
 use Rattle.state_store.specs.Distinct.{AreDistinct}
 use Rattle.state_store.proofs.published.PushedLaw.{pushed_at, pushed_before, pushed_last}
-use Rattle.state_store.proofs.PackLaw.{unpacks, is_packed, width_some, width_few}
+use Rattle.state_store.proofs.PackLaw.{width_some, width_few}
 
 -- a state that stands at a place is what the row there stands for
 pub row_of : (facts : ℕ) (rows : List (List ℕ)) (k : ℕ) (s : List Bool) → slice_get (map (unpacked facts) rows) k ≡ Some s → (row : List ℕ) × (slice_get rows k ≡ Some row) × (unpacked facts row ≡ s)
@@ -26,7 +26,7 @@ state_of_row facts [] k row at = absurd (cc)
 state_of_row facts (r ∷ rows) zero row at = let e : r ≡ row = cc in ap (λ (xs : List ℕ). Some (unpacked facts xs)) e
 state_of_row facts (r ∷ rows) (suc k) row at = state_of_row facts rows k row at
 
-packed_at : (facts : ℕ) (rows : List (List ℕ)) (k : ℕ) (row : List ℕ) → AllByRecursion (IsPacked facts) rows → slice_get rows k ≡ Some row → IsPacked facts row
+pub packed_at : (facts : ℕ) (rows : List (List ℕ)) (k : ℕ) (row : List ℕ) → AllByRecursion (IsPacked facts) rows → slice_get rows k ≡ Some row → IsPacked facts row
 packed_at facts [] k row all at = absurd (cc)
 packed_at facts (r ∷ rows) zero row all at = let e : r ≡ row = cc in subst (IsPacked facts) e all.0
 packed_at facts (r ∷ rows) (suc k) row all at = packed_at facts rows k row all.1 at
@@ -37,15 +37,11 @@ own_row facts rows k s all at =
     let there = row_of facts rows k s at in
     there.1 ∙ ap Some (packed_at facts rows k there.0 all there.1 ∙ ap (packed (width_of facts)) there.2)
 
--- a state whose row is known is known
-pub known : (facts : ℕ) (rows : List (List ℕ)) (k : ℕ) (s : List Bool) → length s ≡ facts → slice_get rows k ≡ Some (packed (width_of facts) s) → slice_get (map (unpacked facts) rows) k ≡ Some s
-known facts rows k s long at = state_of_row facts rows k (packed (width_of facts) s) at ∙ ap Some (unpacks facts s long)
-
 -- a state whose row is absent is absent
-pub none_there : (facts : ℕ) (rows : List (List ℕ)) (s : List Bool) → AllByRecursion (IsPacked facts) rows → ((k : ℕ) → k < length rows → slice_get rows k ≡ Some (packed (width_of facts) s) → ⊥) → IsAbsent (map (unpacked facts) rows) s
-none_there facts rows s all none k at =
-    let there = own_row facts rows k s all at in
-    none k (slice_get_within rows k (packed (width_of facts) s) there) there
+pub none_there : (facts : ℕ) (rows : List (List ℕ)) (row : List ℕ) → AllByRecursion (IsPacked facts) rows → IsPacked facts row → ((k : ℕ) → k < length rows → slice_get rows k ≡ Some row → ⊥) → IsAbsent (map (unpacked facts) rows) (unpacked facts row)
+none_there facts rows row all is none k at =
+    let there = own_row facts rows k (unpacked facts row) all at ∙ ap Some (sym is) in
+    none k (slice_get_within rows k row there) there
 
 -- where no two rows are equal no two states are
 pub distinct : (facts : ℕ) (rows : List (List ℕ)) → AllByRecursion (IsPacked facts) rows → AreDistinct rows → AreDistinct (map (unpacked facts) rows)
@@ -53,12 +49,9 @@ distinct facts rows all apart i j s at at2 = apart i j (packed (width_of facts) 
 
 -- ---- one more row
 
-all_push : (facts : ℕ) (rows : List (List ℕ)) (row : List ℕ) → AllByRecursion (IsPacked facts) rows → IsPacked facts row → AllByRecursion (IsPacked facts) (rows ++ row ∷ [])
+pub all_push : (facts : ℕ) (rows : List (List ℕ)) (row : List ℕ) → AllByRecursion (IsPacked facts) rows → IsPacked facts row → AllByRecursion (IsPacked facts) (rows ++ row ∷ [])
 all_push facts [] row all is = (is, tt)
 all_push facts (r ∷ rows) row all is = (all.0, all_push facts rows row all.1 is)
-
-pub packed_push : (facts : ℕ) (rows : List (List ℕ)) (s : List Bool) → length s ≡ facts → AllByRecursion (IsPacked facts) rows → AllByRecursion (IsPacked facts) (rows ++ packed (width_of facts) s ∷ [])
-packed_push facts rows s long all = all_push facts rows (packed (width_of facts) s) all (is_packed facts s long)
 
 pub apart_push : (rows : List (List ℕ)) (row : List ℕ) → AreDistinct rows → ((k : ℕ) → k < length rows → slice_get rows k ≡ Some row → ⊥) → AreDistinct (rows ++ row ∷ [])
 apart_push rows row apart none i j r at at2 = by (pushed_at rows row r i at) (pushed_at rows row r j at2)
@@ -71,25 +64,25 @@ apart_push rows row apart none i j r at at2 = by (pushed_at rows row r i at) (pu
 
 -- ---- what is kept
 
-pub kept_new : (f n width : ℕ) (block : Block) (froms acts : List ℕ) (table : Trees) → f ≤ 2147483647 → width ≡ width_of f → block ≡ record { width = width; most = n; rows = [] } → froms ≡ [] → acts ≡ [] → table.most ≡ n
+pub kept_none : (f n : ℕ) (block : Block) (froms acts : List ℕ) (table : Trees) → f ≤ 2147483647 → block.width ≡ width_of f → n ≤ block.most → block.most ≤ 4294967295 → block.rows ≡ [] → froms ≡ [] → acts ≡ [] → table.most ≡ block.most
     → ((w : ℕ) (rows : List (List ℕ)) → AreTrees w table.heads table.nodes rows 0) → IsKept f n block froms acts table
-kept_new f n width block froms acts table small wide is no_froms no_acts room trees =
-    let none : length table.nodes ≡ 0 = (trees width []).all in
-    let w : block.width ≡ width_of f = ap (λ (b : Block). b.width) is ∙ wide in
-    let rows : block.rows ≡ [] = ap (λ (b : Block). b.rows) is in
+kept_none f n block froms acts table small w le most rows no_froms no_acts room trees =
+    let none : length table.nodes ≡ 0 = (trees block.width []).all in
     let long : length block.rows ≡ 0 = ap (λ (xs : List (List ℕ)). length xs) rows in
     let some = width_some f in
     let few = width_few f small in
     record {
       facts = small;
       width = w;
-      most = ap (λ (b : Block). b.most) is;
+      room = most;
+      most = le;
+      within = omega (arith, long);
       kept =
           record {
             some = omega (arith, w, some);
             few = omega (arith, w, few);
             within = omega (arith, long);
-            room = room ∙ sym (ap (λ (b : Block). b.most) is);
+            room = room;
             apart = subst AreDistinct (sym rows) (λ i j row at. absurd (cc));
             all = none ∙ sym long;
             trees = subst (AreTrees block.width table.heads table.nodes block.rows) (sym none) (trees block.width block.rows);

@@ -1,1 +1,2 @@
 pub mod PushedLaw
+pub mod RowLaw

@@ -1,3 +1,4 @@
 pub mod Distinct
+pub mod Packed
 pub mod Store
 pub mod own

@@ -1,13 +1,14 @@
 -- Stored states, and where each comes from.
 use Rattle.std.specs.Prelude.{◌≡◌, ℕ, ◌+◌, ◌*◌, ◌++◌, ◌∷◌, [], List, Bool, Some, length, slice_get}
-use Rattle.state_store.specs.own.Packed.{width_of}
+use Rattle.state_store.specs.Packed.{width_of}
 use Rattle.state_store.specs.declared.store.Entered.{Entered}
 use Rattle.state_store.specs.declared.store.Entered.TheVariants.{Known, New, Full}
 
 -- The states of so many facts, numbered in the order in which they were entered, each a truth value a fact; for each the number of
--- the state that it comes from, and of the action that led from there; and for how many states there is room.
+-- the state that it comes from, and of the action that led from there; how many states may be entered, and for how many there is room.
 pub record Stored : Type 0 where
   pub facts : ℕ
+  pub room : ℕ
   pub most : ℕ
   pub states : List (List Bool)
   pub parents : List ℕ
@@ -20,6 +21,10 @@ IsAbsent states s = (k : ℕ) → slice_get states k ≡ Some s → ⊥
 -- one more state
 abbrev pub with_state : Stored → List Bool → ℕ → ℕ → Stored
 with_state st s parent action = record st { states = st.states ++ s ∷ []; parents = st.parents ++ parent ∷ []; actions = st.actions ++ action ∷ [] }
+
+-- no states, of which so many may be entered
+abbrev pub emptied : Stored → ℕ → Stored
+emptied st most = record st { most = most; states = []; parents = []; actions = [] }
 
 -- how many bytes a state of so many facts takes: its words, where it comes from, a node, and a bucket
 abbrev pub bytes_of : ℕ → ℕ

@@ -1,4 +1,3 @@
-pub mod Packed
 pub mod Rows
 pub mod Table
 pub mod Kept

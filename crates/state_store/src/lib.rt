@@ -5,7 +5,7 @@
 //! `store` all of it together.
 #![tactic(auto)]
 
-mod pack;
+pub mod pack;
 mod rows;
 pub mod store;
 mod table;

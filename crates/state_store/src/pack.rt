@@ -1,13 +1,15 @@
 //! States as rows of words, 64 truth values to a word.
 
-ghost use Rattle.std.specs.Prelude.{◌≡◌, ◌+◌, ◌*◌, ◌≤◌, ◌<◌, [], length, vec_capacity};
+ghost use Rattle.std.specs.Prelude.{◌≡◌, ◌+◌, ◌*◌, ◌≤◌, ◌<◌, [], length, vec_capacity, IfOk};
 ghost use Rattle.bit_sets.specs.Rows.{row_has};
-ghost use Rattle.state_store.specs.own.Packed.{number_of, packed, unpacked, width_of};
+ghost use Rattle.state_store.specs.Packed.{number_of, packed, unpacked, width_of, IsPacked};
 
 use bit_sets::word::has_bit;
+use containers::memory::Memory;
+use std::alloc::Global;
 
 /// How many words the truth values of so many facts take: one at least.
-pub(crate) fn width_of(facts: u32) -> usize
+pub fn width_of(facts: u32) -> usize
     requires { facts ≤ 2147483647 }
     ensures { result ≡ width_of facts }
 {
@@ -29,7 +31,7 @@ fn number_of(values: &[bool]) -> u64
 }
 
 /// The words of a state, in room that is there.
-pub(crate) fn pack(state: &[bool], width: usize, row: &mut Vec<u64>)
+fn pack(state: &[bool], width: usize, row: &mut Vec<u64>)
     requires { width ≤ vec_capacity row.old }
     ensures row { row.new.items ≡ packed width state.now }
     ensures room { width ≤ vec_capacity row.new }
@@ -45,20 +47,21 @@ pub(crate) fn pack(state: &[bool], width: usize, row: &mut Vec<u64>)
 
 /// Whether a row has a bit.
 #[inline(always)]
-pub(crate) fn has(row: &[u64], bit: u32) -> bool
+pub fn has(row: &[u64], bit: u32) -> bool
     requires { bit < 64 * length row.now }
     ensures { result ≡ row_has row.now bit }
 {
     has_bit(row[(bit / 64) as usize], bit % 64)
 }
 
-/// The truth values for which a row stands.
-pub(crate) fn unpack(row: &[u64], into: &mut [bool])
-    requires wide { length into.old ≤ 64 * length row.now }
-    requires few { length into.old ≤ 2147483647 }
-    ensures { into.new ≡ unpacked (length into.old) row.now }
+/// The row of a state.
+pub fn row_of(alloc: Global, state: &[bool]) -> Result<Vec<u64>, Memory>
+    requires { length state.now ≤ 2147483647 }
+    ensures packed { IfOk result (λ r. IsPacked (length state.now) r.items) }
+    ensures state { IfOk result (λ r. unpacked (length state.now) r.items ≡ state.now) }
 {
-    for fact in 0..into.len() {
-        into[fact] = has(row, fact as u32);
-    }
+    let width = width_of(state.len() as u32);
+    let mut row = Vec::with_capacity(alloc, width)?;
+    pack(state, width, &mut row);
+    Ok(row)
 }

@@ -72,6 +72,14 @@ impl Rows {
         })
     }
 
+    /// Lets go of all rows. The room stays.
+    pub(crate) fn clear(&mut self)
+        ensures { self.new ≡ record self.old { rows = [] } }
+    {
+        self.words.clear();
+        self.count = 0;
+    }
+
     /// How many rows there are.
     pub(crate) fn len(&self) -> u32
         ensures len { result ≡ length self.now.rows }

@@ -1,13 +1,13 @@
 //! Stored states.
 
 ghost use Rattle.std.specs.Prelude.{◌≡◌, ℕ, ◌*◌, ◌+◌, ◌/◌, ◌<◌, ◌≤◌, ◌++◌, ◌∷◌, [], Some, length, min, slice_get, slice_index, IfOk};
-ghost use Rattle.state_store.specs.own.Packed.{width_of};
+ghost use Rattle.state_store.specs.Packed.{unpacked, IsPacked};
 ghost use Rattle.state_store.specs.own.Table.{IsSpot};
 ghost use Rattle.state_store.specs.own.Kept.{AreKept};
 ghost use Rattle.state_store.specs.Distinct.{AreDistinct};
-ghost use Rattle.state_store.specs.Store.{IsEntered, bytes_of};
+ghost use Rattle.state_store.specs.Store.{IsEntered, bytes_of, emptied};
 
-use crate::pack::{pack, unpack, width_of};
+use crate::pack::width_of;
 use crate::rows::Rows;
 use crate::table::{Spot, Table};
 use containers::let_go;
@@ -65,25 +65,24 @@ pub struct Store {
     parents: Vec<u32>,
     actions: Vec<u32>,
     table: Table,
-    row: Vec<u64>,
 }
 
 impl Model for Store {
     ghost use Rattle.std.specs.Prelude.{map, vec_capacity};
-    ghost use Rattle.state_store.specs.own.Packed.{unpacked};
+    ghost use Rattle.state_store.specs.Packed.{unpacked};
     ghost use Rattle.state_store.specs.Store.{Stored};
     ghost use Rattle.state_store.specs.own.Kept.{IsKept, HasRoom};
 
     ghost Value = { Stored };
 
-    ghost view = { λ s. record { facts = s.facts; most = s.most; states = map (unpacked s.facts) s.rows.rows; parents = s.parents.items; actions = s.actions.items } };
+    ghost view = { λ s. record { facts = s.facts; room = s.rows.most; most = s.most; states = map (unpacked s.facts) s.rows.rows; parents = s.parents.items; actions = s.actions.items } };
 
-    ghost invariant = { λ s. IsKept s.facts s.most s.rows s.parents.items s.actions.items s.table × HasRoom s.facts s.most (vec_capacity s.parents) (vec_capacity s.actions) (vec_capacity s.row) };
+    ghost invariant = { λ s. IsKept s.facts s.most s.rows s.parents.items s.actions.items s.table × HasRoom s.rows.most (vec_capacity s.parents) (vec_capacity s.actions) };
 }
 
 impl Drop for Store {
     fn drop(self) {
-        let_go!(self: Store { facts, most, rows, parents, actions, table, row });
+        let_go!(self: Store { facts, most, rows, parents, actions, table });
     }
 }
 
@@ -94,10 +93,9 @@ impl Store {
     pub fn new(alloc: Global, facts: u32, most: u32) -> Result<Store, Memory>
         requires facts { facts ≤ 2147483647 }
         requires most { 0 < most }
-        ensures { IfOk result (λ s. s ≡ record { facts = facts; most = most; states = []; parents = []; actions = [] }) }
+        ensures { IfOk result (λ s. s ≡ record { facts = facts; room = most; most = most; states = []; parents = []; actions = [] }) }
     {
-        let width = width_of(facts);
-        let rows = Rows::new(alloc, width, most)?;
+        let rows = Rows::new(alloc, width_of(facts), most)?;
         let table = Table::new(alloc, most)?;
         Ok(Store {
             facts,
@@ -106,7 +104,6 @@ impl Store {
             parents: Vec::with_capacity(alloc, most as usize)?,
             actions: Vec::with_capacity(alloc, most as usize)?,
             table,
-            row: Vec::with_capacity(alloc, width)?,
         })
     }
 
@@ -121,32 +118,44 @@ impl Store {
         self.rows.len()
     }
 
-    /// Enters a state, where it is not there and there is room.
-    pub fn enter(&mut self, state: &[bool], parent: u32, action: u32) -> Entered
-        requires { length state.now ≡ self.old.facts }
-        ensures { IsEntered self.old self.new state.now parent action result }
+    /// Lets go of all states. From now on so many may be entered.
+    pub fn clear(&mut self, most: u32)
+        requires { most ≤ self.old.room }
+        ensures { self.new ≡ emptied self.old most }
     {
-        pack(state, width_of(self.facts), &mut self.row);
-        let spot = self.table.spot(&self.rows, &self.row);
+        self.most = most;
+        self.rows.clear();
+        self.table.restart();
+        self.parents.clear();
+        self.actions.clear();
+    }
+
+    /// Enters the state of a row, where it is not there and may be entered.
+    pub fn enter(&mut self, row: &[u64], parent: u32, action: u32) -> Entered
+        requires { IsPacked self.old.facts row.now }
+        ensures { IsEntered self.old self.new (unpacked self.old.facts row.now) parent action result }
+    {
+        let spot = self.table.spot(&self.rows, row);
         if let Spot::Known(number) = spot {
             return Entered::Known(number);
         }
         if self.rows.len() == self.most {
             return Entered::Full;
         }
-        add_row(&mut self.rows, &mut self.table, &self.row, spot);
+        add_row(&mut self.rows, &mut self.table, row, spot);
         self.parents.push_reserved(parent);
         self.actions.push_reserved(action);
         Entered::New
     }
 
-    /// The state with this number.
-    pub fn state(&self, number: u32, into: &mut [bool])
-        requires number { number < length self.now.states }
-        requires into { length into.old ≡ self.now.facts }
-        ensures { slice_get self.now.states number ≡ Some into.new }
+    /// The row of the state with this number.
+    #[inline(always)]
+    pub fn row(&self, number: u32) -> &[u64]
+        requires { number < length self.now.states }
+        ensures packed { IsPacked self.now.facts result.now }
+        ensures state { slice_get self.now.states number ≡ Some (unpacked self.now.facts result.now) }
     {
-        unpack(self.rows.at(number), into);
+        self.rows.at(number)
     }
 
     /// The number of the state that one comes from.

@@ -193,6 +193,15 @@ impl Table {
         })
     }
 
+    /// Lets go of all rows. The room stays.
+    pub(crate) fn restart(&mut self)
+        ensures most { self.new.most ≡ self.old.most }
+        ensures trees { (width : ℕ) (rows : List (List ℕ)) → AreTrees width self.new.heads self.new.nodes rows 0 }
+    {
+        let size = self.heads.len();
+        self.clear(size.min(1024));
+    }
+
     /// How many nodes there are.
     fn count(&self) -> u32
         requires { length self.now.nodes ≤ self.now.most }

@@ -19,15 +19,15 @@ pub record AreFrom (parents depths : List ℕ) : Type 0 where
 abbrev pub LeadsNear : Task → Stored → List ℕ → ℕ → List Bool → ℕ → Type 0
 LeadsNear task st depths k s a = (j : ℕ) × (slice_get st.states j ≡ Some (next_values task (state_of s) a)) × (slice_index depths j ≤ slice_index depths k + 1)
 
--- All states before one, and that one up to an action, were swept: each of their actions that can run leads to a stored state. Depths
--- do not fall, no stored state is more than one deeper than the one that is swept, and none is a goal.
-pub record IsBreadth (task : Task) (st : Stored) (number act : ℕ) : Type 0 where
+-- All states before one were swept, and that one by the actions that were tried: each of these actions that can run leads to a stored
+-- state. Depths do not fall, no stored state is more than one deeper than the one that is swept, and none is a goal.
+pub record IsBreadth (task : Task) (st : Stored) (number : ℕ) (tried : ℕ → Type 0) : Type 0 where
   pub walk : IsWalk task st
   pub depths : List ℕ
   pub from : AreFrom st.parents depths
   pub rising : (i j : ℕ) → i ≤ j → j < length st.states → slice_index depths i ≤ slice_index depths j
   pub near : (k : ℕ) → k < length st.states → number < length st.states → slice_index depths k ≤ slice_index depths number + 1
-  pub closed : (k : ℕ) (s : List Bool) (a : ℕ) → IsPassed number act k a → slice_get st.states k ≡ Some s → Runs task (state_of s) a → LeadsNear task st depths k s a
+  pub closed : (k : ℕ) (s : List Bool) (a : ℕ) → IsPassed number tried k a → slice_get st.states k ≡ Some s → Runs task (state_of s) a → LeadsNear task st depths k s a
   pub no_goal : HasNoGoal task st.states
 
 -- the last stored state is a goal, at a depth below which there is none
@@ -42,8 +42,8 @@ pub record IsFound (task : Task) (st : Stored) : Type 0 where
   pub goal : IsGoal task (state_of state)
   pub layers : AreDepths task st.states depths (slice_index depths last)
 
--- what came of sweeping a state: it is closed, or a goal was entered last, or there is no room
-abbrev pub IsSwept : Task → Stored → ℕ → Swept → Type 0
-IsSwept task st number Closed = IsBreadth task st (number + 1) 0
-IsSwept task st number Goal = IsFound task st
-IsSwept task st number Full = IsWalk task st × (length st.states ≡ st.most)
+-- what came of sweeping a state: so much is closed, or a goal was entered last, or there is no room
+abbrev pub IsSwept : Task → Stored → ℕ → (ℕ → Type 0) → Swept → Type 0
+IsSwept task st number tried Closed = IsBreadth task st number tried
+IsSwept task st number tried Goal = IsFound task st
+IsSwept task st number tried Full = IsWalk task st × (length st.states ≡ st.most)

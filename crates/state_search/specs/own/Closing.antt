@@ -1,5 +1,5 @@
 -- A walk whose stored states are swept in their order, whatever proposed them.
-use Rattle.std.specs.Prelude.{◌≡◌, ℕ, suc, ◌+◌, List, Bool, Some, length, slice_get}
+use Rattle.std.specs.Prelude.{◌≡◌, ℕ, suc, List, Bool, Some, length, slice_get}
 use Rattle.gt_core.specs.Literal.{state_of}
 use Rattle.gt_core.specs.Task.{Task}
 use Rattle.gt_core.specs.Execution.{Runs, IsGoal, next_values}
@@ -9,11 +9,11 @@ use Rattle.state_search.specs.own.Walk.{IsWalk, HasNoGoal, IsPassed}
 use Rattle.state_search.specs.declared.sweep.Swept.{Swept}
 use Rattle.state_search.specs.declared.sweep.Swept.TheVariants.{Closed, Goal, Full}
 
--- all states before one, and that one up to an action, were swept: each of their actions that can run leads to a stored state, and
--- no stored state is a goal
-pub record IsClosing (task : Task) (st : Stored) (number act : ℕ) : Type 0 where
+-- all states before one were swept, and that one by the actions that were tried: each of these actions that can run leads to a stored
+-- state, and no stored state is a goal
+pub record IsClosing (task : Task) (st : Stored) (number : ℕ) (tried : ℕ → Type 0) : Type 0 where
   pub walk : IsWalk task st
-  pub closed : (k : ℕ) (s : List Bool) (a : ℕ) → IsPassed number act k a → slice_get st.states k ≡ Some s → Runs task (state_of s) a → IsListed st.states (next_values task (state_of s) a)
+  pub closed : (k : ℕ) (s : List Bool) (a : ℕ) → IsPassed number tried k a → slice_get st.states k ≡ Some s → Runs task (state_of s) a → IsListed st.states (next_values task (state_of s) a)
   pub no_goal : HasNoGoal task st.states
 
 -- the last stored state is a goal
@@ -25,8 +25,8 @@ pub record IsGoalLast (task : Task) (st : Stored) : Type 0 where
   pub at : slice_get st.states last ≡ Some state
   pub goal : IsGoal task (state_of state)
 
--- what came of sweeping a state: it is closed, or a goal was entered last, or there is no room
-abbrev pub IsClosedOff : Task → Stored → ℕ → Swept → Type 0
-IsClosedOff task st number Closed = IsClosing task st (number + 1) 0
-IsClosedOff task st number Goal = IsGoalLast task st
-IsClosedOff task st number Full = IsWalk task st × (length st.states ≡ st.most)
+-- what came of sweeping a state: so much is closed, or a goal was entered last, or there is no room
+abbrev pub IsClosedOff : Task → Stored → ℕ → (ℕ → Type 0) → Swept → Type 0
+IsClosedOff task st number tried Closed = IsClosing task st number tried
+IsClosedOff task st number tried Goal = IsGoalLast task st
+IsClosedOff task st number tried Full = IsWalk task st × (length st.states ≡ st.most)

@@ -9,5 +9,5 @@ use Rattle.state_search.specs.declared.walk.Proposed.TheVariants.{Unable, Known,
 abbrev pub IsOffered : Task → Stored → Stored → List Bool → Proposed → Type 0
 IsOffered task old new after Unable = new ≡ old
 IsOffered task old new after Known = new ≡ old
-IsOffered task old new after Entered = (new.states ≡ old.states ++ after ∷ []) × (new.most ≡ old.most)
+IsOffered task old new after Entered = (new.states ≡ old.states ++ after ∷ []) × (new.most ≡ old.most) × (new.room ≡ old.room)
 IsOffered task old new after Full = (new ≡ old) × (length old.states ≡ old.most)

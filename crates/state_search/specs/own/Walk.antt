@@ -28,6 +28,10 @@ IsProposed task old new parent s a Known = (new ≡ old) × IsListed old.states 
 IsProposed task old new parent s a Entered = Runs task (state_of s) a × (new ≡ with_state old (next_values task (state_of s) a) parent a)
 IsProposed task old new parent s a Full = (new ≡ old) × (length old.states ≡ old.most)
 
--- an action of a state that is closed up to an action of one
-abbrev pub IsPassed : ℕ → ℕ → ℕ → ℕ → Type 0
-IsPassed number act k a = (k < number) ⊎ ((k ≡ number) × (a < act))
+-- no action
+abbrev pub none_tried : ℕ → Type 0
+none_tried a = ⊥
+
+-- an action of a state before one, or one of those that were tried in that one
+abbrev pub IsPassed : ℕ → (ℕ → Type 0) → ℕ → ℕ → Type 0
+IsPassed number tried k a = (k < number) ⊎ ((k ≡ number) × tried a)

@@ -1,7 +1,7 @@
 -- What a store keeps.
 use Rattle.std.specs.Prelude.{◌≡◌, ℕ, ◌<◌, ◌≤◌, List, length}
 use Rattle.std.specs.List.{AllByRecursion}
-use Rattle.state_store.specs.own.Packed.{IsPacked, width_of}
+use Rattle.state_store.specs.Packed.{IsPacked, width_of}
 use Rattle.state_store.specs.own.Rows.{Block}
 use Rattle.state_store.specs.own.Table.{Trees, AreTrees}
 use Rattle.state_store.specs.Distinct.{AreDistinct}
@@ -16,18 +16,20 @@ pub record AreKept (block : Block) (table : Trees) : Type 0 where
   pub all : length table.nodes ≡ length block.rows
   pub trees : AreTrees block.width table.heads table.nodes block.rows (length table.nodes)
 
--- so many facts at most, rows that are packed states of these, kept in the table, and as many parents and actions
+-- so many facts at most, rows that are packed states of these, no more than may be entered, kept in the table, and as many parents
+-- and actions
 pub record IsKept (f n : ℕ) (block : Block) (froms acts : List ℕ) (table : Trees) : Type 0 where
   pub facts : f ≤ 2147483647
   pub width : block.width ≡ width_of f
-  pub most : block.most ≡ n
+  pub room : block.most ≤ 4294967295
+  pub most : n ≤ block.most
+  pub within : length block.rows ≤ n
   pub kept : AreKept block table
   pub packed : AllByRecursion (IsPacked f) block.rows
   pub parents : length froms ≡ length block.rows
   pub actions : length acts ≡ length block.rows
 
 -- its lists have room for all that may come
-pub record HasRoom (f n p a r : ℕ) : Type 0 where
+pub record HasRoom (n p a : ℕ) : Type 0 where
   pub parents : n ≤ p
   pub actions : n ≤ a
-  pub row : width_of f ≤ r

@@ -1,4 +1,7 @@
-use Rattle.std.proofs.Common.{◌∙◌, ap, sym, subst}
+use Rattle.std.proofs.Common.{◌∙◌, ap, sym, subst, List, Bool}
+use Rattle.gt_core.specs.Literal.{state_of}
+use Rattle.gt_core.specs.Execution.{IsGoal}
+use Rattle.state_store.specs.Packed.{unpacked}
 use Rattle.state_store.specs.Store.{Stored}
 use Rattle.state_search.specs.own.Walk.{HasNoGoal}
 use Rattle.state_search.proofs.ClosingLaw.{goal_offered, none_offered}
@@ -7,7 +10,9 @@ use Rattle.state_search.proofs.follow.follow_all.Goals as goal
 
 pub plan_of-requires : goal.plan_of-requires
 plan_of-requires g c =
-    goal_offered c.args.task.now c.offered.new.store c.loop-turn.store.states c.offered.new.after c.offered.ensures.walk c.in-Entered.ensures.offered.0 (c.is_goal.ensures.goal c.if-is_goal.true)
+    let row = ap (unpacked c.args.task.now.facts) c.deref.ensures.value in
+    goal_offered c.args.task.now c.offered.new.store c.loop-turn.store.states (unpacked c.args.task.now.facts c.offered.new.after.items) c.offered.ensures.walk c.in-Entered.ensures.offered.0
+    (subst (λ (s : List Bool). IsGoal c.args.task.now (state_of s)) row (c.is_goal.ensures.goal c.if-is_goal.true))
 
 pub loop-turn-preserved : goal.loop-turn-preserved
 loop-turn-preserved g c =
@@ -19,8 +24,10 @@ loop-turn-preserved g c =
           let off = w.in-Entered.ensures.offered in
           record {
             walk = c.offered.ensures.walk;
-            no_goal = none_offered c.args.task.now c.offered.new.store.states c.loop-turn.store.states c.offered.new.after inv.no_goal off.0 (w.is_goal.ensures.none w.if-is_goal.false);
+            no_goal = none_offered c.args.task.now c.offered.new.store.states c.loop-turn.store.states (unpacked c.args.task.now.facts c.offered.new.after.items) inv.no_goal off.0
+                (λ goal. w.is_goal.ensures.none w.if-is_goal.false (subst (λ (s : List Bool). IsGoal c.args.task.now (state_of s)) (sym (ap (unpacked c.args.task.now.facts) w.deref.ensures.value)) goal));
             most = off.1 ∙ inv.most;
+            room = off.2 ∙ inv.room;
             before = before;
             after = after;
           }
@@ -30,6 +37,7 @@ loop-turn-preserved g c =
             walk = c.offered.ensures.walk;
             no_goal = subst (λ (st : Stored). HasNoGoal c.args.task.now st.states) (sym same) inv.no_goal;
             most = ap (λ (st : Stored). st.most) same ∙ inv.most;
+            room = ap (λ (st : Stored). st.room) same ∙ inv.room;
             before = before;
             after = after;
           }
@@ -39,6 +47,7 @@ loop-turn-preserved g c =
             walk = c.offered.ensures.walk;
             no_goal = subst (λ (st : Stored). HasNoGoal c.args.task.now st.states) (sym same) inv.no_goal;
             most = ap (λ (st : Stored). st.most) same ∙ inv.most;
+            room = ap (λ (st : Stored). st.room) same ∙ inv.room;
             before = before;
             after = after;
           }

@@ -1,4 +1,5 @@
 use Rattle.std.proofs.Common.{◌≡◌, length}
+use Rattle.state_store.specs.Packed.{width_of}
 use Rattle.state_search.specs.own.Walk.{IsWalk, HasNoGoal}
 use Rattle.state_search.proofs.follow.follow_all.Given as goal
 
@@ -8,6 +9,7 @@ invariant-loop-turn g l = record {
   walk : IsWalk l.task l.store;
   no_goal : HasNoGoal l.task l.store.states;
   most : l.store.most ≡ l.initial.store.most;
-  before : length l.before ≡ l.task.facts;
-  after : length l.after ≡ l.task.facts;
+  room : l.store.room ≡ l.initial.store.room;
+  before : length l.before.items ≡ width_of l.task.facts;
+  after : length l.after.items ≡ width_of l.task.facts;
 }

@@ -1,5 +1,5 @@
 use Rattle.std.proofs.Common.{◌≡◌, ◌≤◌, length, drop}
-use Rattle.state_store.specs.own.Packed.{number_of}
+use Rattle.state_store.specs.Packed.{number_of}
 use Rattle.state_store.proofs.pack.number_of.Given as goal
 
 -- the number is that of the truth values that were read

@@ -1,6 +1,6 @@
 use Rattle.std.proofs.Common.{◌≡◌, ◌++◌, ◌-◌, ◌≤◌, length}
 use Rattle.std.specs.Prelude.{vec_capacity}
-use Rattle.state_store.specs.own.Packed.{packed}
+use Rattle.state_store.specs.Packed.{packed}
 use Rattle.state_store.proofs.pack.pack.Given as goal
 
 -- the words that were made and those of what is left are the row

@@ -1,0 +1,3 @@
+pub mod RowState
+pub mod TrieLaw
+pub mod published
