@@ -4,6 +4,7 @@ use Rattle.std.specs.Prelude.{Contains, ◌⊎◌}
 use Rattle.pl_io.specs.Outside.{Heard, appended}
 use Rattle.report_lines.specs.Lines.{joined}
 use Rattle.gt_core.specs.Task.{Task}
+use Rattle.gt_core.proofs.published.Within.{lawful}
 use Rattle.pd_model.specs.Plan.{IsPlan}
 use Rattle.pd_model.specs.declared.calls.Call.{Call}
 use Rattle.pd_model.specs.declared.parts.Parts.{Parts}
@@ -53,16 +54,17 @@ use Rattle.search_top.specs.Budget.{budget_of}
 use Rattle.search_top.specs.Report.{outcome_of, report_of, IsSmallAnswer}
 use Rattle.never_defs.specs.Backward.{IsBackwardCertificate}
 use Rattle.never_search.specs.Answer.{IsEnd as IsExploredEnd}
+use Rattle.never_search.specs.declared.answer.Answer.{Answer}
 use Rattle.never_search.specs.declared.answer.End.{End as Found}
-use Rattle.never_search.specs.declared.answer.End.TheVariants as found
+use Rattle.never_search.specs.declared.answer.End.TheVariants as founds
 use Rattle.never_system.specs.Blif.{blif}
-use Rattle.search_top.specs.Explored.{AnswersExplore, AnswersSystem, IsSmallFound, ended_explored}
+use Rattle.search_top.specs.Explored.{AnswersExplore, AnswersSystem, IsExplored, IsSmallFound, ended_explored}
 use Rattle.search_top.specs.Never.{AnswersNever, AnswersCertificate, IsSaidOf, IsJudged, said_forward, said_backward, said_weights, finding_by, finding_of, exclusion_line, judgement_line}
 use Rattle.search_top.specs.Ended.{status_of, status_of_walk, status_of_finding, text_of}
 use Rattle.search_top.specs.Answers.{Answers, AnswersSearch, IsLeastBy, OnceReady, not_ready, ready}
 use Rattle.search_top.specs.Causes.{Comes, no_request, asked, ComesFor, stopped, decided, HasFault, names_in}
 use Rattle.search_top.specs.Laws.{TopLaws}
-use Rattle.search_top.specs.Headline.{PlanRuns, PlanIsLeast, HasNoPlan, OfGround, IsSpent, TellsExclusion, IsOpen, OfThree, IsJudgedAs, TellsSet, TellsSystem}
+use Rattle.search_top.specs.Headline.{PlanRuns, PlanIsLeast, HasNoPlan, OfGround, IsSpent, TellsExclusion, IsOpen, OfThree, IsJudgedAs, TellsSet, IsSearched, TellsSystem}
 use Rattle.search_top.proofs.Lines.{report_read, plan_read}
 use Rattle.search_top.proofs.Runs.{numbers_long, run_is_plan}
 
@@ -98,9 +100,9 @@ explore_low : (budget : ℕ) (task : Parts) (g : Grounded) (end : Ended) → Ans
 explore_low budget task g end a = by a.answer.end (ap status_of a.told)
   where
     by : (e : Found) → status_of end ≡ status_of (ended_explored task g e) → status_of end ≤ 4
-    by (found.Set clauses) at = omega (arith, at)
-    by (found.Plan actions) at = omega (arith, at)
-    by found.Open at = omega (arith, at)
+    by (founds.Set clauses) at = omega (arith, at)
+    by (founds.Plan actions) at = omega (arith, at)
+    by founds.Open at = omega (arith, at)
 
 system_low : (task : Parts) (g : Grounded) (end : Ended) → AnswersSystem task g end → status_of end ≤ 4
 system_low task g end a = let at = ap status_of a in omega (arith, at)
@@ -322,29 +324,38 @@ module _ (laws : TopLaws) (task : Parts) (g : Grounded) (is : IsReady task g) wh
   -- a search for a certificate
   module _ (budget : ℕ) (end : Ended) (a : AnswersExplore budget task g end) where
     set_none : (e : Found) → IsExploredEnd g.task a.is.0 budget a.answer.obligations e → status_of (ended_explored task g e) ≡ 0 → HasNoPlan task
-    set_none (found.Set clauses) k zero = laws.backward task g a.is.0 clauses is.grounded a.is.1 k.passes
-    set_none (found.Plan actions) k zero = absurd (omega (arith, zero))
-    set_none found.Open k zero = absurd (omega (arith, zero))
+    set_none (founds.Set clauses) k zero = laws.backward task g a.is.0 clauses is.grounded a.is.1 k.passes
+    set_none (founds.Plan actions) k zero = absurd (omega (arith, zero))
+    set_none founds.Open k zero = absurd (omega (arith, zero))
 
     pub explored_none : status_of end ≡ 0 → HasNoPlan task
     explored_none zero = set_none a.answer.end a.is.2.ends (sym (ap status_of a.told) ∙ zero)
 
     set_told : (e : Found) → IsExploredEnd g.task a.is.0 budget a.answer.obligations e → status_of (ended_explored task g e) ≡ 0 → TellsSet (text_of (ended_explored task g e)) task
-    set_told (found.Set clauses) k zero =
-        of_ground (λ h. (known : List (ℕ × ℕ)) × (cs : List (List ℕ)) × AreInvariants h.task known × IsBackwardCertificate h.task known cs × (clauses_text false clauses ≡ clauses_text false cs))
-        (a.is.0, clauses, a.is.1, k.passes, refl)
-    set_told (found.Plan actions) k zero = absurd (omega (arith, zero))
-    set_told found.Open k zero = absurd (omega (arith, zero))
+    set_told (founds.Set clauses) k zero =
+        let few : g.task.facts ≤ 2048 = (lawful g.task (laws.is_task task g is.grounded is.fits)).facts in
+        of_ground (λ h. (known : List (ℕ × ℕ)) × (cs : List (List ℕ)) × AreInvariants h.task known × IsBackwardCertificate h.task known cs × (certificate_of h.task.facts (clauses_text false clauses) ≡ Ok (Backward cs)) × (clauses_text false clauses ≡ clauses_text false cs))
+        (a.is.0, clauses, a.is.1, k.passes, laws.written g.task.facts false clauses (omega (arith, few)) k.as_read, refl)
+    set_told (founds.Plan actions) k zero = absurd (omega (arith, zero))
+    set_told founds.Open k zero = absurd (omega (arith, zero))
 
     pub explored_set : status_of end ≡ 0 → TellsSet (text_of end) task
     explored_set zero = subst (λ (t : List ℕ). TellsSet t task) (sym (ap text_of a.told)) (set_told a.answer.end a.is.2.ends (sym (ap status_of a.told) ∙ zero))
 
+    open_told : (answer : Answer) → IsExplored g.task budget answer → (e : Found) → answer.end ≡ e → IsExploredEnd g.task a.is.0 budget answer.obligations e → status_of (ended_explored task g e) ≡ 2 → IsSearched budget task
+    open_told answer known (founds.Set clauses) same k two = absurd (omega (arith, two))
+    open_told answer known (founds.Plan actions) same k two = absurd (omega (arith, two))
+    open_told answer known founds.Open same k two = of_ground (λ h. (b : Answer) × IsExplored h.task budget b × (b.end ≡ founds.Open) × (b.obligations ≡ budget)) (answer, known, same, k)
+
+    pub explored_open : status_of end ≡ 2 → IsSearched budget task
+    explored_open two = open_told a.answer a.is a.answer.end refl a.is.2.ends (sym (ap status_of a.told) ∙ two)
+
     plan_told : (e : Found) → IsSmallFound e → IsExploredEnd g.task a.is.0 budget a.answer.obligations e → status_of (ended_explored task g e) ≡ 1 → PlanRuns (text_of (ended_explored task g e)) task
-    plan_told (found.Set clauses) small k one = absurd (omega (arith, one))
-    plan_told (found.Plan actions) small k one =
+    plan_told (founds.Set clauses) small k one = absurd (omega (arith, one))
+    plan_told (founds.Plan actions) small k one =
         let plan = run_is_plan laws.calls laws.agree task g actions.items is.grounded k in
         (plan.0, plan_read laws task g is.well hows.Greedy actions.items plan.0 small plan.1 (calls_fit task task.init plan.0 plan.2), plan.2)
-    plan_told found.Open small k one = absurd (omega (arith, one))
+    plan_told founds.Open small k one = absurd (omega (arith, one))
 
     pub explored_plan : status_of end ≡ 1 → PlanRuns (text_of end) task
     explored_plan one = subst (λ (t : List ℕ). PlanRuns t task) (sym (ap text_of a.told)) (plan_told a.answer.end a.small a.is.2.ends (sym (ap status_of a.told) ∙ one))
@@ -480,6 +491,9 @@ module _ (heard hears : List Heard) (failed fails : List (List ℕ)) (words : Li
       told_set text zero printed =
           of_explore 0 (omega arith) (TellsSet text)
           (λ task g ready_is end at put a. subst (λ (t : List ℕ). TellsSet t task) (sym (printed_is before after text (text_of end) printed put)) (explored_set laws task g ready_is budget end a at)) zero
+
+      pub searched : status ≡ 2 → OfFiles heard hears domain problem (IsSearched budget)
+      searched two = of_explore 2 (omega arith) (IsSearched budget) (λ task g ready_is end at put a. explored_open laws task g ready_is budget end a at) two
 
       pub met : (text : List ℕ) → status ≡ 1 → Printed before after text → OfFiles heard hears domain problem (PlanRuns text)
       met text one printed =

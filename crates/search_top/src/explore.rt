@@ -1,6 +1,7 @@
 //! What the bytes of a domain and a problem come to where a certificate is searched for, or the task is told as a transition system.
 ghost use Rattle.std.specs.Prelude.{◌≡◌, ◌≤◌, length, OnOk, IfOk};
 ghost use Rattle.containers.specs.Limits.{most_bytes};
+ghost use Rattle.never_system.specs.Blif.{blif};
 ghost use Rattle.search_top.specs.Answers.{EndsWith, OnceReady};
 ghost use Rattle.search_top.specs.Explored.{IsExplored, ended_explored, IsSmallFound, AnswersExplore, AnswersSystem};
 ghost use Rattle.search_top.specs.own.Below.{IsFoundBelow};
@@ -90,6 +91,15 @@ pub(crate) fn answer_explore<H: Threads + Sync>(
     Ok(end)
 }
 
+// The text of a task as a transition system.
+fn system_text(alloc: Global, task: &Task) -> Result<Bytes, Memory>
+    ensures { IfOk result (λ text. text ≡ blif task.now) }
+{
+    let mut text = Vec::new(alloc);
+    put_blif(alloc, &mut text, task)?;
+    Ok(Bytes::of(text))
+}
+
 /// What a domain and a problem come to for the command `system`.
 pub(crate) fn answer_system(alloc: Global, domain: &[u8], problem: &[u8]) -> Result<Ended, Stop>
     requires domain_fits { length domain.now ≤ most_bytes }
@@ -97,7 +107,6 @@ pub(crate) fn answer_system(alloc: Global, domain: &[u8], problem: &[u8]) -> Res
     ensures { EndsWith (OnceReady domain.now problem.now AnswersSystem) result }
 {
     let ready = read_ready(alloc, domain, problem)?;
-    let mut text = Vec::new(alloc);
-    put_blif(alloc, &mut text, ready.grounded.task())?;
-    Ok(Ended::Plain(Ending::Listing(Bytes::of(text))))
+    let text = system_text(alloc, ready.grounded.task())?;
+    Ok(Ended::Plain(Ending::Listing(text)))
 }

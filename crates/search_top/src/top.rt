@@ -11,7 +11,7 @@ ghost use Rattle.search_top.specs.Ended.{status_of, text_of};
 ghost use Rattle.search_top.specs.declared.ended.Finding.TheVariants as Finding;
 ghost use Rattle.search_top.specs.declared.ended.Ended.{Ended};
 ghost use Rattle.search_top.specs.Causes.{Comes, HasFault, names_in};
-ghost use Rattle.search_top.specs.Headline.{PlanRuns, PlanIsLeast, HasNoPlan, IsSpent, TellsExclusion, IsOpen, OfThree, IsJudgedAs, TellsSet, TellsSystem};
+ghost use Rattle.search_top.specs.Headline.{PlanRuns, PlanIsLeast, HasNoPlan, IsSpent, TellsExclusion, IsOpen, OfThree, IsJudgedAs, TellsSet, IsSearched, TellsSystem};
 
 use crate::decide::decide;
 use crate::laws::laws;
@@ -78,7 +78,6 @@ pub fn run<H: Threads + Sync, S: Shelf, K: Sink>(
         → OfThree (S.heard shelf.old) (S.heard shelf.new) domain problem certificate (IsJudgedAs Finding.Rejected text) }
 
     // Of `never-search`: with status 0 there is no plan of any length, and the text is a certificate of it; with status 1 its calls are a plan.
-    // Of `system`: with status 0 the text is the task as a transition system.
     ensures explored { (domain problem : List ℕ) (budget : ℕ) → result.0 ≡ 0
         → requested (map string_bytes words.now) ≡ Some (explores domain problem budget)
         → OfFiles (S.heard shelf.old) (S.heard shelf.new) domain problem HasNoPlan }
@@ -88,6 +87,12 @@ pub fn run<H: Threads + Sync, S: Shelf, K: Sink>(
     ensures met { (text domain problem : List ℕ) (budget : ℕ) → result.0 ≡ 1 → Printed (K.taken sink.old) (K.taken sink.new) text
         → requested (map string_bytes words.now) ≡ Some (explores domain problem budget)
         → OfFiles (S.heard shelf.old) (S.heard shelf.new) domain problem (PlanRuns text) }
+    // With status 2 the budget is spent.
+    ensures searched { (domain problem : List ℕ) (budget : ℕ) → result.0 ≡ 2
+        → requested (map string_bytes words.now) ≡ Some (explores domain problem budget)
+        → OfFiles (S.heard shelf.old) (S.heard shelf.new) domain problem (IsSearched budget) }
+
+    // Of `system`: with status 0 the text is the task as a transition system.
     ensures system_told { (text domain problem : List ℕ) → result.0 ≡ 0 → Printed (K.taken sink.old) (K.taken sink.new) text
         → requested (map string_bytes words.now) ≡ Some (systems domain problem)
         → OfFiles (S.heard shelf.old) (S.heard shelf.new) domain problem (TellsSystem text) }

@@ -11,4 +11,4 @@ returns-in_err-ready c = handed Plain _ _ (λ end h. not_ready end h refl) _ _ c
 pub returns : goal.returns
 returns c =
     let r = c.in_ok-ready.ready in
-    ready r.task r.grounded c.in_ok-ready.ensures.task c.in_ok-ready.ensures.ready (ap (λ (t : List ℕ). Plain (Listing t)) (rw c.task.ensures at c.in_ok-put_blif.ensures))
+    ready r.task r.grounded c.in_ok-ready.ensures.task c.in_ok-ready.ensures.ready (ap (λ (t : List ℕ). Plain (Listing t)) (rw c.task.ensures at c.in_ok-text.ensures))

@@ -3,7 +3,7 @@ use Rattle.plan_endings.specs.Ends.{end_in}
 use Rattle.plan_endings.proofs.published.Stopped.{end_answers}
 use Rattle.search_top.specs.declared.request.How.TheVariants as how
 use Rattle.search_top.specs.declared.ended.Ended.TheVariants.{Plain, Usage}
-use Rattle.search_top.proofs.Promises.{runs, least, no_plan, spent, never, excluded, left_open, certified, accepted, rejected, explored, told_set, met, system_told, read_fault, usage, not_taken, no_command, status_apart}
+use Rattle.search_top.proofs.Promises.{runs, least, no_plan, spent, never, excluded, left_open, certified, accepted, rejected, explored, told_set, searched, met, system_told, read_fault, usage, not_taken, no_command, status_apart}
 use Rattle.search_top.proofs.top.run.Goals as goal
 
 pub finish-requires : goal.finish-requires
@@ -53,6 +53,9 @@ returns-clause-explored g c domain problem budget zero is = explored _ _ _ _ _ _
 
 pub returns-clause-found : goal.returns-clause-found
 returns-clause-found g c text domain problem budget zero printed is = told_set _ _ _ _ _ _ _ _ c.laws.ensures (returns-clause-due g c) domain problem budget is text zero printed
+
+pub returns-clause-searched : goal.returns-clause-searched
+returns-clause-searched g c domain problem budget two is = searched _ _ _ _ _ _ _ _ c.laws.ensures (returns-clause-due g c) domain problem budget is two
 
 pub returns-clause-met : goal.returns-clause-met
 returns-clause-met g c text domain problem budget one printed is = met _ _ _ _ _ _ _ _ c.laws.ensures (returns-clause-due g c) domain problem budget is text one printed
