@@ -4,15 +4,17 @@ use Rattle.std.specs.List.{AllByRecursion}
 use Rattle.gt_core.specs.Task.{Task}
 use Rattle.gt_core.specs.Laws.{IsRunToGoal}
 use Rattle.never_defs.specs.Backward.{IsBackwardCertificate}
+use Rattle.never_text.specs.Laws.{IsAsRead}
 use Rattle.never_search.specs.declared.answer.End.{End}
 use Rattle.never_search.specs.declared.answer.End.TheVariants.{Set, Plan, Open}
 use Rattle.never_search.specs.declared.answer.Answer.{Answer}
 
--- clauses over the facts of a task, not too many, that pass the check of a backward set
+-- clauses over the facts of a task, not too many and each as it is read, that pass the check of a backward set
 pub record IsSet (task : Task) (known : List (ℕ × ℕ)) (clauses : List (List ℕ)) : Type 0 where
   pub passes : IsBackwardCertificate task known clauses
   pub few : length clauses ≤ 16777216
   pub over : AllByRecursion (AllByRecursion (λ l. l < 2 * task.facts)) clauses
+  pub as_read : AllByRecursion (IsAsRead task.facts) clauses
 
 -- something was found: such clauses, or actions that run to the goal
 abbrev pub IsFound : Task → List (ℕ × ℕ) → End → Type 0

@@ -26,7 +26,7 @@ filtered_below p (suc n) first top within = by (p first) refl (filtered_below p 
     by true e rest = rw e (omega arith, rest)
     by false e rest = rw e rest
 
-sorted_below : (facts : ℕ) (lits : List ℕ) → AllByRecursion (λ l. l < 2 * facts) (sorted facts lits)
+pub sorted_below : (facts : ℕ) (lits : List ℕ) → AllByRecursion (λ l. l < 2 * facts) (sorted facts lits)
 unfolding sorted
 sorted_below facts lits = filtered_below (is_in lits) (2 * facts) 0 (2 * facts) (omega arith)
 

@@ -1,3 +1,4 @@
 pub mod Certificate
 pub mod Reading
+pub mod Laws
 pub mod own

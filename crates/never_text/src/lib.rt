@@ -8,10 +8,11 @@
 
 pub mod fault;
 mod kind;
+pub mod laws;
 mod line;
 mod literals;
 pub mod read;
 mod reader;
-mod sorted;
+pub mod sorted;
 mod weight;
 pub mod write;

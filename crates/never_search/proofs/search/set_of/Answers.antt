@@ -6,4 +6,5 @@ returns-in-Accepted c = record {
   passes = rw c.in-Accepted.is at c.in_ok-check_backward.ensures;
   few = omega (arith, c.in_ok-clauses.ensures.few, c.if-layers-gt-MOST_CLAUSES.false);
   over = rw c.facts.ensures.facts at c.in_ok-clauses.ensures.over;
+  as_read = rw c.facts.ensures.facts at c.in_ok-clauses.ensures.as_read;
 }
