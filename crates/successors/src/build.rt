@@ -97,7 +97,9 @@ impl Tree {
             at = self.child_for(at, *lit)?;
         }
         let next = self.node(at).first;
-        self.nexts.push(next)?;
+        if let Some(place) = self.nexts.get_mut(act as usize) {
+            *place = next;
+        }
         if let Some(node) = self.nodes.get_mut(at as usize) {
             node.first = act;
         }
@@ -169,10 +171,13 @@ impl Growing {
 fn tree_of(alloc: Global, task: &Task) -> Result<Tree, Memory> {
     let mut tree = Tree {
         nodes: Vec::new(alloc),
-        nexts: Vec::new(alloc),
+        nexts: vec![in alloc; NONE; task.acts().len()]?,
     };
     tree.nodes.push(bare())?;
-    for act in 0..task.acts().len() {
+    // The last action first, since each comes before those that are there.
+    let count = task.acts().len();
+    for done in 0..count {
+        let act = count - 1 - done;
         tree.put(small(act), task.acts()[act].pre())?;
     }
     Ok(tree)
