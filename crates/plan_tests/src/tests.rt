@@ -2,6 +2,7 @@
 mod devices;
 mod drivers;
 mod orders;
+mod proofs;
 mod read_tasks;
 mod runs;
 mod tasks;

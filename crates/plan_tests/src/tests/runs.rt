@@ -19,7 +19,7 @@ pub(crate) fn holds(rt: &impl Abort, is: bool, words: &str) {
 }
 
 /// A file for a shelf.
-fn named(rt: &impl Abort, alloc: Global, name: &str, bytes: &[u8]) -> NamedFile {
+pub(crate) fn named(rt: &impl Abort, alloc: Global, name: &str, bytes: &[u8]) -> NamedFile {
     let name = Bytes::copied_from(alloc, name.as_bytes()).expect(rt, "memory");
     let bytes = Bytes::copied_from(alloc, bytes).expect(rt, "memory");
     NamedFile { name, bytes }

@@ -1,4 +1,4 @@
-use Rattle.std.proofs.Common.{arith, ◌≡◌, ◌∙◌, ◌<◌, ◌*◌, ℕ, List, sym, subst}
+use Rattle.std.proofs.Common.{arith, ◌∙◌, ◌<◌, ◌*◌, ℕ, List, sym, subst}
 use Rattle.std.specs.List.{AllByRecursion}
 use Rattle.never_text.specs.Laws.{IsAsRead}
 use Rattle.never_search.proofs.SetLaw.{few_more, over_more}
