@@ -56,8 +56,12 @@ def program(task):
     lines = ["Minimize", " obj: " + " + ".join(f"p{fact} + n{fact}" for fact in range(task.facts)), "Subject To"]
     for number, row in enumerate(sorted(rows)):
         lines.append(f" a{number}: " + " ".join(f"{SIGNS[how][0]} {SIGNS[how][1]}{fact}" for fact, how in row) + " <= 0")
-    terms = [f"+ w{fact}" if 2 * fact in goal else f"- n{fact}" for fact in range(task.facts) if 2 * fact + 1 not in goal]
-    lines.append(" goal: " + " ".join([*terms, *(f"- w{fact}" for fact in sorted(task.initial))]) + " >= 1")
+    # A variable may stand once in a row: a fact that is true at first and in each goal state counts nothing.
+    terms = {f"+ w{fact}" if 2 * fact in goal else f"- n{fact}" for fact in range(task.facts) if 2 * fact + 1 not in goal}
+    terms ^= {f"{'+' if f'+ w{fact}' in terms else '-'} w{fact}" for fact in task.initial}
+    if not terms:
+        return None
+    lines.append(" goal: " + " ".join(sorted(terms, key=lambda it: int(it[3:]))) + " >= 1")
     for fact in range(task.facts):
         lines += [f" p{fact}a: p{fact} - w{fact} >= 0", f" n{fact}a: n{fact} + w{fact} >= 0"]
     return "\n".join([*lines, "Bounds", *(f" w{fact} free" for fact in range(task.facts)), "End", ""])
