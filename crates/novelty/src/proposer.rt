@@ -45,11 +45,7 @@ impl Proposer for Novelty {
         row: &[u64],
     ) -> Result<(), Memory> {
         let unmet = unmet_in(task, row);
-        let key = if self.seen.note(row, unmet) {
-            unmet
-        } else {
-            unmet.saturating_add(self.goals).saturating_add(1)
-        };
+        let key = self.seen.key_of(row, unmet, unmet, self.goals);
         self.left.push(key, number)
     }
 

@@ -44,7 +44,7 @@ impl Seen {
     }
 
     /// Notes the facts of a state of a kind, and tells whether one is new.
-    pub fn note(&mut self, row: &[u64], kind: usize) -> bool {
+    fn note(&mut self, row: &[u64], kind: usize) -> bool {
         let mut new = false;
         let from = kind.saturating_mul(self.width);
         for place in 0..row.len() {
@@ -57,5 +57,14 @@ impl Seen {
             }
         }
         new
+    }
+
+    /// The key of a state of a kind with so many of the goals unmet, which is noted: by these, and behind all states with a new fact
+    /// where it has none.
+    pub fn key_of(&mut self, row: &[u64], kind: usize, unmet: usize, goals: usize) -> usize {
+        if self.note(row, kind) {
+            return unmet;
+        }
+        unmet.saturating_add(goals).saturating_add(1)
     }
 }

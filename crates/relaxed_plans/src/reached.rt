@@ -196,11 +196,7 @@ impl Proposer for Reached {
         self.marks.push(mark)?;
         let count = bits_in(mark.low, mark.high).min(self.counts.saturating_sub(1));
         let kind = unmet.saturating_mul(self.counts).saturating_add(count);
-        let key = if self.seen.note(row, kind) {
-            unmet
-        } else {
-            unmet.saturating_add(self.goals).saturating_add(1)
-        };
+        let key = self.seen.key_of(row, kind, unmet, self.goals);
         self.left.push(key, number)
     }
 

@@ -25,11 +25,13 @@ struct Branch {
     first: u32,
 }
 
-/// The nodes, of which the first one is above all others, and for each action the next one of its node.
+/// The nodes, of which the first one is above all others, for each action the next one of its node, and for each literal how many
+/// actions need it.
 #[derive(Drop)]
 struct Tree {
     nodes: Vec<Branch>,
     nexts: Vec<u32>,
+    counts: Vec<u32>,
 }
 
 /// A node without literal, children and actions.
@@ -90,14 +92,39 @@ impl Tree {
         Ok(number)
     }
 
-    /// Puts an action at the end of the way of its literals.
-    fn put(&mut self, act: u32, lits: &[u32]) -> Result<(), Memory> {
-        let mut at = 0u32;
+    /// Counts an action at the literals that it needs.
+    fn count(&mut self, lits: &[u32]) {
         for lit in lits {
-            at = self.child_for(at, *lit)?;
+            if let Some(count) = self.counts.get_mut(*lit as usize) {
+                *count = count.saturating_add(1);
+            }
+        }
+    }
+
+    /// A literal with its place in the order: those that most actions need come first, so that many actions are passed over at once.
+    fn key_of(&self, lit: u32) -> u64 {
+        let count = match self.counts.get(lit as usize) {
+            Some(count) => *count,
+            None => 0,
+        };
+        u64::from(4_294_967_295 - count) * 4_294_967_296 + u64::from(lit)
+    }
+
+    /// Puts an action at the end of the way of its literals.
+    fn put(&mut self, act: u32, lits: &[u32], keys: &mut Vec<u64>) -> Result<(), Memory> {
+        keys.clear();
+        for lit in lits {
+            keys.push(self.key_of(*lit))?;
+        }
+        keys.sort_unstable();
+        let mut at = 0u32;
+        for key in keys.as_slice() {
+            at = self.child_for(at, (*key % 4_294_967_296) as u32)?;
         }
         let next = self.node(at).first;
-        self.nexts.push(next)?;
+        if let Some(place) = self.nexts.get_mut(act as usize) {
+            *place = next;
+        }
         if let Some(node) = self.nodes.get_mut(at as usize) {
             node.first = act;
         }
@@ -169,11 +196,19 @@ impl Growing {
 fn tree_of(alloc: Global, task: &Task) -> Result<Tree, Memory> {
     let mut tree = Tree {
         nodes: Vec::new(alloc),
-        nexts: Vec::new(alloc),
+        nexts: vec![in alloc; NONE; task.acts().len()]?,
+        counts: vec![in alloc; 0; 2 * task.facts() as usize]?,
     };
     tree.nodes.push(bare())?;
-    for act in 0..task.acts().len() {
-        tree.put(small(act), task.acts()[act].pre())?;
+    for act in task.acts() {
+        tree.count(act.pre());
+    }
+    let mut keys = Vec::new(alloc);
+    // The last action first, since each comes before those that are there.
+    let count = task.acts().len();
+    for done in 0..count {
+        let act = count - 1 - done;
+        tree.put(small(act), task.acts()[act].pre(), &mut keys)?;
     }
     Ok(tree)
 }

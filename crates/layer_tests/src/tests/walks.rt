@@ -1,4 +1,6 @@
 // Walks through the states of small tasks.
+ghost use Rattle.std.specs.Prelude.{◌<◌};
+
 use super::holding::holds;
 use super::tasks::{Sketch, task_of};
 use greedy_walk::greedy::greedy;
@@ -23,7 +25,9 @@ fn long(answer: &Answer) -> u32 {
 }
 
 /// Both walks end as they should, with so many states entered by the one that goes breadth first.
-fn end_so(rt: &impl Abort, alloc: Global, task: &Task, most: u32, wanted: u32, states: u32) {
+fn end_so(rt: &impl Abort, alloc: Global, task: &Task, most: u32, wanted: u32, states: u32)
+    requires { 0 < most }
+{
     let first = least(alloc, task, most).ok().expect(rt, "memory");
     holds(rt, long(&first) == wanted, "the end, breadth first");
     holds(rt, first.states == states, "the states, breadth first");
