@@ -14,7 +14,7 @@ tell_end() {
     *) [ "$status" -le 128 ] || say "the program was ended by signal $((status - 128))" ;;
     esac
     case $status:${words[0]-} in
-    [3457]:* | 1:check | 2:search | 2:never | [12]:plan | [12]:plan-all | 124:plan | 124:plan-all) explain ;;
+    [3457]:* | 1:check | 2:search | 2:never | 2:never-search | [12]:plan | [12]:plan-all | 124:plan | 124:plan-all) explain ;;
     esac
     if [ "$status" = 7 ] && [ -t 2 ]; then
         if is_command "${words[0]-}"; then tell_help "${words[0]}" "$called " >&2; else tell_words >&2; fi

@@ -97,7 +97,7 @@ def explain(call):
     elif call.status in (1, 2) and call.command in OF_PLAN:
         tell_warnings(call)
         tell_next(call)
-    elif call.status == 2 and call.command in ("search", "never"):
+    elif call.status == 2 and call.command in ("search", "never", "never-search"):
         tell_next(call)
     elif call.status == 124 and call.command in OF_PLAN:
         tell_report(call)

@@ -78,7 +78,7 @@ def next_command(called, has_solve, command, words, files, status, horizon=None)
     """The command to try after a report that has not decided; horizon is the one whose formula is past the limit."""
     if has_solve and command in ("plan", "search") and len(files) == 2:
         return f"next: {called} solve {joined(files)}   goes on until there is an answer"
-    if command == "never":
+    if command in ("never", "never-search"):
         tool = "./never-by" if called.startswith("./") else "never-by"
         return f"next: {tool} all {joined(files)}   searches for a certificate"
     if command == "search":

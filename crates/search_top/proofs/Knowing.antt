@@ -3,7 +3,7 @@ use Rattle.std.proofs.Common.{◌≡◌, ◌<◌, ◌*◌, ◌/◌, ℕ, ◌+◌
 use Rattle.std.specs.Prelude.{slice_get}
 use Rattle.gt_core.specs.Literal.{is_in}
 use Rattle.gt_core.specs.Clauses.{KnownClauses, IsKnownClauses}
-use Rattle.gt_core.specs.Task.{Task}
+use Rattle.gt_core.specs.Task.{Task, initial_state}
 use Rattle.gt_core.specs.Lawful.{is_task}
 use Rattle.gt_core.proofs.published.Within.{lawful, literals_within}
 use Rattle.gt_core.proofs.published.Basics.{each_at}
@@ -17,10 +17,13 @@ use Rattle.plan_tasks.proofs.published.Taking.{drop_at}
 use Rattle.pd_model.specs.State.{same_atom, is_in as is_listed}
 use Rattle.pd_model.specs.declared.atoms.Atom.{Atom}
 use Rattle.pd_model.specs.declared.parts.Parts.{Parts}
-use Rattle.search_top.specs.own.Below.{HasActions}
+use Rattle.search_top.specs.own.Below.{HasActions, IsFoundBelow}
 use Rattle.search_top.specs.own.Exclusions.{HasLiterals}
 use Rattle.search_top.specs.declared.judged.Judgement.{Judgement}
-use Rattle.search_top.proofs.Runs.{actions_are}
+use Rattle.search_top.proofs.Runs.{able_below, actions_are}
+use Rattle.never_search.specs.Answer.{IsEnd as IsExploredEnd}
+use Rattle.never_search.specs.declared.answer.End.{End as Found}
+use Rattle.never_search.specs.declared.answer.End.TheVariants as found
 
 -- the invariants of a task are known clauses
 pub known_of : (task : Task) (known : KnownClauses) → known.facts ≡ task.facts → AreInvariants task known.clauses → IsKnownClauses known
@@ -53,3 +56,13 @@ found_at a x xs k at same = rw (drop_at xs k x at, same) refl
 
 pub not_at : (a x : Atom) (xs : List Atom) (k : ℕ) → slice_get xs k ≡ Some x → same_atom a x ≡ false → is_listed a (drop (k + 1) xs) ≡ is_listed a (drop k xs)
 not_at a x xs k at other = rw (drop_at xs k x at, other) refl
+
+-- ---- a plan that a search met
+
+pub found_below : (task : Task) (known : List (ℕ × ℕ)) (budget taken : ℕ) (end : Found) → IsExploredEnd task known budget taken end → IsFoundBelow (length task.actions) end
+found_below task known budget taken (found.Set clauses) is = tt
+found_below task known budget taken (found.Plan actions) is = able_below task (initial_state task) actions.items is.runs
+found_below task known budget taken found.Open is = tt
+
+pub found_has_calls : (p : Parts) (g : Grounded) → IsGrounded p g → (end : Found) → IsFoundBelow (length g.task.actions) end → IsFoundBelow (length g.calls) end
+found_has_calls p g is end h = subst (λ (n : ℕ). IsFoundBelow n end) (actions_are p g is) h

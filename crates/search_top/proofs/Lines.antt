@@ -74,3 +74,8 @@ module _ (laws : TopLaws) (p : Parts) (g : Grounded) (well : IsWellFormed p) whe
       → AreNumbers g calls actions → list_all (is_call p) calls ≡ true → plan_file p (joined (states_line states most ∷ plan_line how (length actions) ∷ map (action_text p g) actions)) ≡ Ok calls
   report_read how states most actions calls some few small numbers are =
       laws.reads p _ calls (states_spelled states most _ calls some few (plan_spelled how (length actions) _ calls small (calls_spelled actions calls numbers are)))
+
+  -- the lines of a plan alone are one too
+  pub plan_read : (how : How) (actions : List ℕ) (calls : List Call) → length actions < 2 ^ 64 → AreNumbers g calls actions → list_all (is_call p) calls ≡ true
+      → plan_file p (joined (plan_line how (length actions) ∷ map (action_text p g) actions)) ≡ Ok calls
+  plan_read how actions calls small numbers are = laws.reads p _ calls (plan_spelled how (length actions) _ calls small (calls_spelled actions calls numbers are))

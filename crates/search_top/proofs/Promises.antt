@@ -1,9 +1,10 @@
 -- The promises of the top call, each from what it needs alone: mostly that its ending has a cause and that its text is written.
-use Rattle.std.proofs.Common.{◌≡◌, ◌≤◌, ℕ, List, [], ◌∷◌, ◌++◌, length, Result, Ok, Err, Option, Some, None, refl, sym, ap, subst, ◌∙◌, arith, inl, inr}
+use Rattle.std.proofs.Common.{◌≡◌, ◌≤◌, ℕ, List, [], ◌∷◌, ◌++◌, length, false, Result, Ok, Err, Option, Some, None, refl, sym, ap, subst, ◌∙◌, arith, inl, inr}
 use Rattle.std.specs.Prelude.{Contains, ◌⊎◌}
 use Rattle.pl_io.specs.Outside.{Heard, appended}
 use Rattle.report_lines.specs.Lines.{joined}
 use Rattle.gt_core.specs.Task.{Task}
+use Rattle.gt_core.proofs.published.Within.{lawful}
 use Rattle.pd_model.specs.Plan.{IsPlan}
 use Rattle.pd_model.specs.declared.calls.Call.{Call}
 use Rattle.pd_model.specs.declared.parts.Parts.{Parts}
@@ -37,26 +38,34 @@ use Rattle.never_check.specs.declared.backward.BackwardVerdict.{BackwardVerdict}
 use Rattle.never_check.specs.declared.backward.BackwardVerdict.TheVariants as backwards
 use Rattle.never_check.specs.declared.weights.WeightsVerdict.{WeightsVerdict}
 use Rattle.never_check.specs.declared.weights.WeightsVerdict.TheVariants as weighed
-use Rattle.never_text.specs.Certificate.{Certificate, Nothing, Forward, Backward, Weights, certificate_of}
+use Rattle.never_text.specs.Certificate.{Certificate, Nothing, Forward, Backward, Weights, certificate_of, clauses_text}
 use Rattle.never_text.specs.declared.fault.Fault.{Fault}
 use Rattle.search_top.specs.declared.request.How.{How}
 use Rattle.search_top.specs.declared.request.How.TheVariants as hows
 use Rattle.search_top.specs.declared.judged.Judgement.{Judgement}
+use Rattle.search_top.specs.declared.judged.Judgement.TheVariants as judgements
 use Rattle.search_top.specs.declared.ended.Finding.{Finding}
 use Rattle.search_top.specs.declared.ended.Finding.TheVariants as findings
 use Rattle.search_top.specs.declared.ended.Ended.{Ended}
 use Rattle.search_top.specs.declared.ended.Ended.TheVariants.{Walked, Usage}
-use Rattle.search_top.specs.Seen.{Seen, searches, nevers, certifies, names_of}
+use Rattle.search_top.specs.Seen.{Seen, searches, nevers, certifies, explores, systems, names_of}
 use Rattle.search_top.specs.Requested.{requested}
 use Rattle.search_top.specs.Budget.{budget_of}
 use Rattle.search_top.specs.Report.{outcome_of, report_of, IsSmallAnswer}
+use Rattle.never_defs.specs.Backward.{IsBackwardCertificate}
+use Rattle.never_search.specs.Answer.{IsEnd as IsExploredEnd}
+use Rattle.never_search.specs.declared.answer.Answer.{Answer}
+use Rattle.never_search.specs.declared.answer.End.{End as Found}
+use Rattle.never_search.specs.declared.answer.End.TheVariants as founds
+use Rattle.never_system.specs.Blif.{blif}
+use Rattle.search_top.specs.Explored.{AnswersExplore, AnswersSystem, IsExplored, IsSmallFound, ended_explored}
 use Rattle.search_top.specs.Never.{AnswersNever, AnswersCertificate, IsSaidOf, IsJudged, said_forward, said_backward, said_weights, finding_by, finding_of, exclusion_line, judgement_line}
 use Rattle.search_top.specs.Ended.{status_of, status_of_walk, status_of_finding, text_of}
 use Rattle.search_top.specs.Answers.{Answers, AnswersSearch, IsLeastBy, OnceReady, not_ready, ready}
 use Rattle.search_top.specs.Causes.{Comes, no_request, asked, ComesFor, stopped, decided, HasFault, names_in}
 use Rattle.search_top.specs.Laws.{TopLaws}
-use Rattle.search_top.specs.Headline.{PlanRuns, PlanIsLeast, HasNoPlan, OfGround, IsSpent, TellsExclusion, IsOpen, OfThree, IsJudgedAs}
-use Rattle.search_top.proofs.Lines.{report_read}
+use Rattle.search_top.specs.Headline.{PlanRuns, PlanIsLeast, HasNoPlan, OfGround, IsSpent, TellsExclusion, IsOpen, OfThree, IsJudgedAs, TellsSet, IsSearched, TellsSystem}
+use Rattle.search_top.proofs.Lines.{report_read, plan_read}
 use Rattle.search_top.proofs.Runs.{numbers_long, run_is_plan}
 
 -- ---- statuses
@@ -70,6 +79,7 @@ finding_low : (finding : Finding) → status_of_finding finding ≤ 3
 finding_low findings.NoPlan = omega arith
 finding_low findings.Rejected = omega arith
 finding_low findings.Open = omega arith
+finding_low findings.Planned = omega arith
 finding_low findings.Refused = omega arith
 
 -- what comes of files that are ready has a status up to 4, where their answers have
@@ -86,6 +96,17 @@ never_low task g end a = let low = finding_low (finding_by a.by) in let at = ap 
 certificate_low : (text : List ℕ) (task : Parts) (g : Grounded) (end : Ended) → AnswersCertificate text task g end → status_of end ≤ 4
 certificate_low text task g end a = let low = finding_low (finding_of a.said) in let at = ap status_of a.told in omega (arith, low, at)
 
+explore_low : (budget : ℕ) (task : Parts) (g : Grounded) (end : Ended) → AnswersExplore budget task g end → status_of end ≤ 4
+explore_low budget task g end a = by a.answer.end (ap status_of a.told)
+  where
+    by : (e : Found) → status_of end ≡ status_of (ended_explored task g e) → status_of end ≤ 4
+    by (founds.Set clauses) at = omega (arith, at)
+    by (founds.Plan actions) at = omega (arith, at)
+    by founds.Open at = omega (arith, at)
+
+system_low : (task : Parts) (g : Grounded) (end : Ended) → AnswersSystem task g end → status_of end ≤ 4
+system_low task g end a = let at = ap status_of a in omega (arith, at)
+
 module _ (heard hears : List Heard) (failed fails : List (List ℕ)) where
   answers_low : (request : Seen) (files : List (List ℕ)) (end : Ended) → Answers request files end → status_of end ≤ 4
   answers_low (searches d p h n m) [] end k = absurd k
@@ -96,6 +117,14 @@ module _ (heard hears : List Heard) (failed fails : List (List ℕ)) where
   answers_low (nevers d p) (first ∷ []) end k = absurd k
   answers_low (nevers d p) (first ∷ (second ∷ (third ∷ files))) end k = absurd k
   answers_low (nevers d p) (first ∷ (second ∷ [])) end k = ready_low first second AnswersNever never_low end k
+  answers_low (explores d p n) [] end k = absurd k
+  answers_low (explores d p n) (first ∷ []) end k = absurd k
+  answers_low (explores d p n) (first ∷ (second ∷ (third ∷ files))) end k = absurd k
+  answers_low (explores d p n) (first ∷ (second ∷ [])) end k = ready_low first second (AnswersExplore n) (explore_low n) end k
+  answers_low (systems d p) [] end k = absurd k
+  answers_low (systems d p) (first ∷ []) end k = absurd k
+  answers_low (systems d p) (first ∷ (second ∷ (third ∷ files))) end k = absurd k
+  answers_low (systems d p) (first ∷ (second ∷ [])) end k = ready_low first second AnswersSystem system_low end k
   answers_low (certifies d p c) [] end k = absurd k
   answers_low (certifies d p c) (first ∷ []) end k = absurd k
   answers_low (certifies d p c) (first ∷ (second ∷ [])) end k = absurd k
@@ -216,14 +245,19 @@ module _ (laws : TopLaws) (how : How) (n m : ℕ) (task : Parts) (g : Grounded) 
 finding_none : (finding : Finding) → status_of_finding finding ≡ 0 → finding ≡ findings.NoPlan
 finding_none findings.NoPlan zero = refl
 finding_none findings.Rejected zero = absurd (omega (arith, zero))
+finding_none findings.Planned zero = absurd (omega (arith, zero))
 finding_none findings.Open zero = absurd (omega (arith, zero))
 finding_none findings.Refused zero = absurd (omega (arith, zero))
 
-finding_rejected : (finding : Finding) → status_of_finding finding ≡ 1 → finding ≡ findings.Rejected
-finding_rejected findings.NoPlan one = absurd (omega (arith, one))
-finding_rejected findings.Rejected one = refl
-finding_rejected findings.Open one = absurd (omega (arith, one))
-finding_rejected findings.Refused one = absurd (omega (arith, one))
+-- what is said of a certificate is never that there is a plan
+said_rejected : (said : Judgement) → status_of_finding (finding_of said) ≡ 1 → finding_of said ≡ findings.Rejected
+said_rejected (judgements.Faulty at) one = absurd (omega (arith, one))
+said_rejected (judgements.Clauses count) one = absurd (omega (arith, one))
+said_rejected judgements.Weights one = absurd (omega (arith, one))
+said_rejected (judgements.Initial clause) one = refl
+said_rejected (judgements.Goal clause) one = refl
+said_rejected (judgements.Pair clause action) one = refl
+said_rejected (judgements.Action action) one = refl
 
 -- a goal that is excluded by something passes
 passes : (task : Task) (known : List (ℕ × ℕ)) (by : Exclusion) → status_of_finding (finding_by by) ≡ 0 → IsExclusion task known by → GoalPassesForward task known []
@@ -287,6 +321,48 @@ module _ (laws : TopLaws) (task : Parts) (g : Grounded) (is : IsReady task g) wh
   by_said (Err fault) said k zero = absurd (let three = ap (λ (s : Judgement). status_of_finding (finding_of s)) k in omega (arith, three, zero))
   by_said (Ok certificate) said k zero = by_certificate k.0 k.1 certificate said k.2 zero
 
+  -- a search for a certificate
+  module _ (budget : ℕ) (end : Ended) (a : AnswersExplore budget task g end) where
+    set_none : (e : Found) → IsExploredEnd g.task a.is.0 budget a.answer.obligations e → status_of (ended_explored task g e) ≡ 0 → HasNoPlan task
+    set_none (founds.Set clauses) k zero = laws.backward task g a.is.0 clauses is.grounded a.is.1 k.passes
+    set_none (founds.Plan actions) k zero = absurd (omega (arith, zero))
+    set_none founds.Open k zero = absurd (omega (arith, zero))
+
+    pub explored_none : status_of end ≡ 0 → HasNoPlan task
+    explored_none zero = set_none a.answer.end a.is.2.ends (sym (ap status_of a.told) ∙ zero)
+
+    set_told : (e : Found) → IsExploredEnd g.task a.is.0 budget a.answer.obligations e → status_of (ended_explored task g e) ≡ 0 → TellsSet (text_of (ended_explored task g e)) task
+    set_told (founds.Set clauses) k zero =
+        let few : g.task.facts ≤ 2048 = (lawful g.task (laws.is_task task g is.grounded is.fits)).facts in
+        of_ground (λ h. (known : List (ℕ × ℕ)) × (cs : List (List ℕ)) × AreInvariants h.task known × IsBackwardCertificate h.task known cs × (certificate_of h.task.facts (clauses_text false clauses) ≡ Ok (Backward cs)) × (clauses_text false clauses ≡ clauses_text false cs))
+        (a.is.0, clauses, a.is.1, k.passes, laws.written g.task.facts false clauses (omega (arith, few)) k.as_read, refl)
+    set_told (founds.Plan actions) k zero = absurd (omega (arith, zero))
+    set_told founds.Open k zero = absurd (omega (arith, zero))
+
+    pub explored_set : status_of end ≡ 0 → TellsSet (text_of end) task
+    explored_set zero = subst (λ (t : List ℕ). TellsSet t task) (sym (ap text_of a.told)) (set_told a.answer.end a.is.2.ends (sym (ap status_of a.told) ∙ zero))
+
+    open_told : (answer : Answer) → IsExplored g.task budget answer → (e : Found) → answer.end ≡ e → IsExploredEnd g.task a.is.0 budget answer.obligations e → status_of (ended_explored task g e) ≡ 2 → IsSearched budget task
+    open_told answer known (founds.Set clauses) same k two = absurd (omega (arith, two))
+    open_told answer known (founds.Plan actions) same k two = absurd (omega (arith, two))
+    open_told answer known founds.Open same k two = of_ground (λ h. (b : Answer) × IsExplored h.task budget b × (b.end ≡ founds.Open) × (b.obligations ≡ budget)) (answer, known, same, k)
+
+    pub explored_open : status_of end ≡ 2 → IsSearched budget task
+    explored_open two = open_told a.answer a.is a.answer.end refl a.is.2.ends (sym (ap status_of a.told) ∙ two)
+
+    plan_told : (e : Found) → IsSmallFound e → IsExploredEnd g.task a.is.0 budget a.answer.obligations e → status_of (ended_explored task g e) ≡ 1 → PlanRuns (text_of (ended_explored task g e)) task
+    plan_told (founds.Set clauses) small k one = absurd (omega (arith, one))
+    plan_told (founds.Plan actions) small k one =
+        let plan = run_is_plan laws.calls laws.agree task g actions.items is.grounded k in
+        (plan.0, plan_read laws task g is.well hows.Greedy actions.items plan.0 small plan.1 (calls_fit task task.init plan.0 plan.2), plan.2)
+    plan_told founds.Open small k one = absurd (omega (arith, one))
+
+    pub explored_plan : status_of end ≡ 1 → PlanRuns (text_of end) task
+    explored_plan one = subst (λ (t : List ℕ). PlanRuns t task) (sym (ap text_of a.told)) (plan_told a.answer.end a.small a.is.2.ends (sym (ap status_of a.told) ∙ one))
+
+  pub system_is : (end : Ended) → AnswersSystem task g end → TellsSystem (text_of end) task
+  system_is end a = of_ground (λ h. text_of end ≡ blif h.task) (ap text_of a)
+
   module _ (text : List ℕ) (end : Ended) (a : AnswersCertificate text task g end) where
     pub certified_none : status_of end ≡ 0 → HasNoPlan task
     certified_none zero = by_said (certificate_of g.task.facts text) a.said a.is (sym (ap status_of a.told) ∙ zero)
@@ -300,7 +376,7 @@ module _ (laws : TopLaws) (task : Parts) (g : Grounded) (is : IsReady task g) wh
     judged_accepted zero = judged_as findings.NoPlan (finding_none (finding_of a.said) (sym (ap status_of a.told) ∙ zero))
 
     pub judged_rejected : status_of end ≡ 1 → IsJudgedAs findings.Rejected (text_of end) text task
-    judged_rejected one = judged_as findings.Rejected (finding_rejected (finding_of a.said) (sym (ap status_of a.told) ∙ one))
+    judged_rejected one = judged_as findings.Rejected (said_rejected a.said (sym (ap status_of a.told) ∙ one))
 
 -- ---- what is promised
 
@@ -402,6 +478,33 @@ module _ (heard hears : List Heard) (failed fails : List (List ℕ)) (words : Li
 
       pub left_open : status ≡ 2 → OfFiles heard hears domain problem IsOpen
       left_open two = of_never 2 (omega arith) IsOpen (λ task g ready_is end at put a. never_open laws task g ready_is end a at) two
+
+    module _ (budget : ℕ) (is : requested words ≡ Some (explores domain problem budget)) where
+      of_explore : (k : ℕ) → k ≤ 2 → (claim : Parts → Type 0) → ((task : Parts) (g : Grounded) → IsReady task g → (end : Ended) → status_of end ≡ k → after ≡ appended before (text_of end) → AnswersExplore budget task g end → claim task)
+          → status ≡ k → OfFiles heard hears domain problem claim
+      of_explore k low claim gives at = of_files k low (explores domain problem budget) domain problem refl (AnswersExplore budget) (λ first second end answers. answers) claim gives due at is
+
+      pub explored : status ≡ 0 → OfFiles heard hears domain problem HasNoPlan
+      explored zero = of_explore 0 (omega arith) HasNoPlan (λ task g ready_is end at put a. explored_none laws task g ready_is budget end a at) zero
+
+      pub told_set : (text : List ℕ) → status ≡ 0 → Printed before after text → OfFiles heard hears domain problem (TellsSet text)
+      told_set text zero printed =
+          of_explore 0 (omega arith) (TellsSet text)
+          (λ task g ready_is end at put a. subst (λ (t : List ℕ). TellsSet t task) (sym (printed_is before after text (text_of end) printed put)) (explored_set laws task g ready_is budget end a at)) zero
+
+      pub searched : status ≡ 2 → OfFiles heard hears domain problem (IsSearched budget)
+      searched two = of_explore 2 (omega arith) (IsSearched budget) (λ task g ready_is end at put a. explored_open laws task g ready_is budget end a at) two
+
+      pub met : (text : List ℕ) → status ≡ 1 → Printed before after text → OfFiles heard hears domain problem (PlanRuns text)
+      met text one printed =
+          of_explore 1 (omega arith) (PlanRuns text)
+          (λ task g ready_is end at put a. subst (λ (t : List ℕ). PlanRuns t task) (sym (printed_is before after text (text_of end) printed put)) (explored_plan laws task g ready_is budget end a at)) one
+
+    module _ (is : requested words ≡ Some (systems domain problem)) where
+      pub system_told : (text : List ℕ) → status ≡ 0 → Printed before after text → OfFiles heard hears domain problem (TellsSystem text)
+      system_told text zero printed =
+          of_files 0 (omega arith) (systems domain problem) domain problem refl AnswersSystem (λ first second end answers. answers) (TellsSystem text)
+          (λ task g ready_is end at put a. subst (λ (t : List ℕ). TellsSystem t task) (sym (printed_is before after text (text_of end) printed put)) (system_is laws task g ready_is end a)) due zero is
 
     module _ (certificate : List ℕ) (is : requested words ≡ Some (certifies domain problem certificate)) where
       pub certified : status ≡ 0 → OfThree heard hears domain problem certificate (λ bytes. HasNoPlan)

@@ -17,7 +17,7 @@ use Rattle.state_search.specs.declared.answer.End.TheVariants as ends
 use Rattle.search_top.specs.own.Below.{IsBelow}
 
 -- actions that can run are actions
-able_below : (task : Task) (s : ℕ → Bool) (actions : List ℕ) → CanRun task s actions → AllByRecursion (λ a. a < length task.actions) actions
+pub able_below : (task : Task) (s : ℕ → Bool) (actions : List ℕ) → CanRun task s actions → AllByRecursion (λ a. a < length task.actions) actions
 able_below task s [] can = tt
 able_below task s (a ∷ others) can = (can.0.action, able_below task (next_of_one task s a) others can.1)
 

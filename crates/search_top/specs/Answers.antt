@@ -14,8 +14,9 @@ use Rattle.search_top.specs.declared.ended.Ended.{Ended}
 use Rattle.search_top.specs.declared.ended.Ended.TheVariants.{Plain, Walked}
 use Rattle.search_top.specs.declared.request.How.{How}
 use Rattle.search_top.specs.declared.request.How.TheVariants.{Greedy, Least}
-use Rattle.search_top.specs.Seen.{Seen, searches, nevers, certifies}
+use Rattle.search_top.specs.Seen.{Seen, searches, nevers, certifies, explores, systems}
 use Rattle.search_top.specs.Budget.{budget_of}
+use Rattle.search_top.specs.Explored.{AnswersExplore, AnswersSystem}
 use Rattle.search_top.specs.Never.{AnswersNever, AnswersCertificate}
 use Rattle.search_top.specs.Report.{outcome_of, report_of, IsSmallAnswer}
 
@@ -46,5 +47,7 @@ pub record AnswersSearch (how : How) (states memory : ℕ) (task : Parts) (g : G
 abbrev pub Answers : Seen → List (List ℕ) → Ended → Type 0
 Answers (searches d p how states memory) (first ∷ second ∷ []) end = OnceReady first second (AnswersSearch how states memory) end
 Answers (nevers d p) (first ∷ second ∷ []) end = OnceReady first second AnswersNever end
+Answers (explores d p budget) (first ∷ second ∷ []) end = OnceReady first second (AnswersExplore budget) end
+Answers (systems d p) (first ∷ second ∷ []) end = OnceReady first second AnswersSystem end
 Answers (certifies d p c) (first ∷ second ∷ third ∷ []) end = OnceReady first second (AnswersCertificate third) end
 Answers _ _ end = ⊥

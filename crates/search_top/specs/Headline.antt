@@ -1,11 +1,16 @@
 -- What is promised of the files.
-use Rattle.std.specs.Prelude.{◌≡◌, ◌≤◌, ℕ, List, [], ◌∷◌, ◌++◌, length, Ok, codes}
+use Rattle.std.specs.Prelude.{◌≡◌, ◌≤◌, ℕ, List, [], ◌∷◌, ◌++◌, length, false, Ok, codes}
 use Rattle.pl_io.specs.Outside.{Heard, whole}
 use Rattle.two_invariants.specs.Closed.{AreInvariants}
 use Rattle.never_defs.specs.Forward.{GoalPassesForward}
+use Rattle.never_defs.specs.Backward.{IsBackwardCertificate}
 use Rattle.never_check.specs.Exclusions.{IsExclusion}
 use Rattle.never_check.specs.declared.excluded.Exclusion.{Exclusion}
-use Rattle.never_text.specs.Certificate.{certificate_of}
+use Rattle.never_text.specs.Certificate.{Backward, certificate_of, clauses_text}
+use Rattle.never_search.specs.declared.answer.Answer.{Answer}
+use Rattle.never_search.specs.declared.answer.End.TheVariants.{Open}
+use Rattle.search_top.specs.Explored.{IsExplored}
+use Rattle.never_system.specs.Blif.{blif}
 use Rattle.plan_tasks.specs.Tasks.{AreTask}
 use Rattle.search_top.specs.declared.ended.Finding.{Finding}
 use Rattle.search_top.specs.declared.judged.Judgement.{Judgement}
@@ -67,3 +72,19 @@ abbrev pub IsSpent : How → ℕ → ℕ → List ℕ → Parts → Type 0
 IsSpent how states memory text task =
     OfGround task (λ g. AreEntered g.task (budget_of how states memory g.task)
     × (text ≡ joined (states_line (budget_of how states memory g.task) (budget_of how states memory g.task) ∷ codes "; unfinished" ∷ [])))
+
+-- ---- certificates that are searched for
+
+-- the text is read as a certificate of clauses that are read backward, which is one by its definition under the invariants of the task
+abbrev pub TellsSet : List ℕ → Parts → Type 0
+TellsSet text task =
+    OfGround task (λ g. (known : List (ℕ × ℕ)) × (clauses : List (List ℕ)) × AreInvariants g.task known × IsBackwardCertificate g.task known clauses
+    × (certificate_of g.task.facts text ≡ Ok (Backward clauses)) × (text ≡ clauses_text false clauses))
+
+-- a search took as many obligations as the budget says, and found nothing
+abbrev pub IsSearched : ℕ → Parts → Type 0
+IsSearched budget task = OfGround task (λ g. (answer : Answer) × IsExplored g.task budget answer × (answer.end ≡ Open) × (answer.obligations ≡ budget))
+
+-- the text is the task as a transition system
+abbrev pub TellsSystem : List ℕ → Parts → Type 0
+TellsSystem text task = OfGround task (λ g. text ≡ blif g.task)

@@ -1,7 +1,8 @@
 -- What the crates below promise of runs, of certificates and of plan files, gathered.
-use Rattle.grounding_defs.specs.Laws.{ActionsAreCalls, GoalsAgree, OneResult}
+use Rattle.grounding_defs.specs.Laws.{ActionsAreCalls, GoalsAgree, OneResult, GroundedIsTask}
 use Rattle.search_laws.specs.Plans.{PlansAreRuns}
 use Rattle.never_laws.specs.Plans.{ExcludedGoalHasNoPlan, ForwardCertificateHasNoPlan, BackwardCertificateHasNoPlan, CertifiedWeightsHaveNoPlan}
+use Rattle.never_text.specs.Laws.{WrittenIsRead}
 use Rattle.pd_plan.specs.Laws.{NothingIsSpelled, CommentsAddNone, CallsAreSpelled, SpelledAreRead}
 
 -- the laws on which the promises rest
@@ -14,6 +15,8 @@ pub record TopLaws : Type 0 where
   pub forward : ForwardCertificateHasNoPlan
   pub backward : BackwardCertificateHasNoPlan
   pub weights : CertifiedWeightsHaveNoPlan
+  pub is_task : GroundedIsTask
+  pub written : WrittenIsRead
   pub nothing : NothingIsSpelled
   pub comment : CommentsAddNone
   pub call : CallsAreSpelled

@@ -3,6 +3,7 @@ pub mod Budget
 pub mod Causes
 pub mod Command
 pub mod Ended
+pub mod Explored
 pub mod Headline
 pub mod Hopeless
 pub mod Laws

@@ -9,6 +9,10 @@ most_states = 4294967295
 abbrev pub most_memory : ℕ
 most_memory = 1048576
 
+-- how many obligations a search for a certificate may be allowed
+abbrev pub most_obligations : ℕ
+most_obligations = 4294967295
+
 -- the bytes of a megabyte
 abbrev pub megabyte : ℕ
 megabyte = 1048576

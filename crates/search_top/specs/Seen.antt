@@ -16,6 +16,8 @@ pub data Seen : Type 0 where
   searches : (domain problem : Text) → How → (states memory : ℕ) → Seen
   nevers : (domain problem : Text) → Seen
   certifies : (domain problem certificate : Text) → Seen
+  explores : (domain problem : Text) → (budget : ℕ) → Seen
+  systems : (domain problem : Text) → Seen
 
 -- How a walk goes that a word names.
 abbrev pub how_of : Text → How
@@ -30,6 +32,8 @@ never_of domain _ = None
 -- What a command's matches ask for; nothing where they are too many.
 abbrev pub seen_in : Name → List Row → Option Seen
 seen_in name.Search rows = Some (searches (text_at (codes "domain") rows) (text_at (codes "problem") rows) (how_of (text_at (codes "how") rows)) (number_at (codes "states") rows) (number_at (codes "memory") rows))
+seen_in name.NeverSearch rows = Some (explores (text_at (codes "domain") rows) (text_at (codes "problem") rows) (number_at (codes "budget") rows))
+seen_in name.System rows = Some (systems (text_at (codes "domain") rows) (text_at (codes "problem") rows))
 seen_in name.Never rows = never_of (text_at (codes "domain") rows) (texts_at (codes "problem") rows)
 
 -- A request of the code, by the names and the numbers in it.
@@ -37,12 +41,16 @@ abbrev pub seen : Request → Seen
 seen (request.Search d p how states memory) = searches d.now p.now how states memory
 seen (request.Never d p) = nevers d.now p.now
 seen (request.Certify d p c) = certifies d.now p.now c.now
+seen (request.NeverSearch d p budget) = explores d.now p.now budget
+seen (request.System d p) = systems d.now p.now
 
 -- The names of the files, in the order of the words.
 abbrev pub names_of : Seen → List Text
 names_of (searches d p how states memory) = d ∷ p ∷ []
 names_of (nevers d p) = d ∷ p ∷ []
 names_of (certifies d p c) = d ∷ p ∷ c ∷ []
+names_of (explores d p budget) = d ∷ p ∷ []
+names_of (systems d p) = d ∷ p ∷ []
 
 -- The numbers of a request are in their ranges.
 abbrev pub IsSized : Seen → Type 0

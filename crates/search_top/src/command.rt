@@ -4,7 +4,7 @@ ghost use Rattle.clap.specs.Words.{app_of};
 ghost use Rattle.requests.specs.Arguments.{TakesWords};
 ghost use Rattle.search_top.specs.Command.{command_of, named, how_words, word_of};
 
-use crate::limits::{MOST_MEMORY, MOST_STATES};
+use crate::limits::{MOST_MEMORY, MOST_OBLIGATIONS, MOST_STATES};
 use clap::Command;
 use clap::builder::ValueParser;
 use requests::{Argument, with_all};
@@ -15,11 +15,15 @@ const GREATEST_STATES: i64 = MOST_STATES as i64;
 
 const GREATEST_MEMORY: i64 = MOST_MEMORY as i64;
 
+const GREATEST_BUDGET: i64 = MOST_OBLIGATIONS as i64;
+
 /// The commands, by the word that names each.
 #[derive(Clone, Copy)]
 pub enum Name {
     Search,
     Never,
+    NeverSearch,
+    System,
 }
 
 static HOW: [&str; 2] = ["greedy", "least"];
@@ -31,6 +35,8 @@ pub(crate) fn name_of(word: &str) -> Option<Name>
     match word {
         "search" => Some(Name::Search),
         "never" => Some(Name::Never),
+        "never-search" => Some(Name::NeverSearch),
+        "system" => Some(Name::System),
         _ => None,
     }
 }
@@ -70,6 +76,20 @@ pub(crate) fn command_by<'a>(
             alloc,
             "never",
             &[Argument::Word("domain"), Argument::Words("problem")],
+        ),
+        Name::System => with_all(
+            alloc,
+            "system",
+            &[Argument::Word("domain"), Argument::Word("problem")],
+        ),
+        Name::NeverSearch => with_all(
+            alloc,
+            "never-search",
+            &[
+                Argument::Word("domain"),
+                Argument::Word("problem"),
+                Argument::Long("budget", ValueParser::Signed(1, GREATEST_BUDGET), "1000000"),
+            ],
         ),
     }
 }

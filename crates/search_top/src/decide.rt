@@ -10,6 +10,7 @@ ghost use Rattle.search_top.specs.Seen.{seen, names_of, IsSized};
 ghost use Rattle.search_top.specs.Answers.{EndsWith, Answers};
 ghost use Rattle.search_top.specs.Causes.{ComesFor, Comes, names_in};
 
+use crate::explore::{answer_explore, answer_system};
 use crate::never::{answer_certificate, answer_never};
 use crate::search::answer_search;
 use crate::{Ended, Request};
@@ -89,6 +90,16 @@ fn answer<H: Threads + Sync>(
         ),
         Request::Never { .. } => {
             answer_never(rt, alloc, files.domain.as_slice(), files.problem.as_slice())
+        }
+        Request::NeverSearch { budget, .. } => answer_explore(
+            rt,
+            alloc,
+            files.domain.as_slice(),
+            files.problem.as_slice(),
+            *budget,
+        ),
+        Request::System { .. } => {
+            answer_system(alloc, files.domain.as_slice(), files.problem.as_slice())
         }
         Request::Certify { .. } => match &files.third {
             Some(certificate) => answer_certificate(

@@ -28,6 +28,8 @@ pub enum Finding {
     NoPlan,
     /// The certificate does not show it.
     Rejected,
+    /// There is a plan.
+    Planned,
     /// That is open.
     Open,
     /// What was handed in is no certificate.
@@ -86,6 +88,10 @@ impl RunEnd for Ended {
                 ..
             } => 1,
             Ended::Shown {
+                finding: Finding::Planned,
+                ..
+            } => 1,
+            Ended::Shown {
                 finding: Finding::Open,
                 ..
             } => 2,
@@ -102,7 +108,7 @@ impl RunEnd for Ended {
             Ended::Plain(ending) => ending.text(alloc),
             Ended::Walked { text, .. } => Ok(Due::Made(text)),
             Ended::Shown { text, .. } => Ok(Due::Made(text)),
-            Ended::Usage => Ok(Due::Fixed("; usage: search or never\n")),
+            Ended::Usage => Ok(Due::Fixed("; usage: search, never, never-search or system\n")),
         }
     }
 }

@@ -8,5 +8,6 @@ pub(crate) fn laws()
     grounding_defs::laws::laws();
     search_laws::laws::laws();
     never_laws::laws::laws();
+    never_text::laws::laws();
     pd_plan::laws();
 }

@@ -11,6 +11,7 @@ mod budget;
 mod command;
 mod decide;
 mod ended;
+mod explore;
 mod hopeless;
 mod judged;
 mod laws;
@@ -27,6 +28,6 @@ mod walk;
 
 pub use ended::{Ended, Finding, Outcome};
 pub use judged::Judgement;
-pub use limits::{MOST_MEMORY, MOST_STATES};
+pub use limits::{MOST_MEMORY, MOST_OBLIGATIONS, MOST_STATES};
 pub use plan_endings::Status;
 pub use request::{How, Request};

@@ -89,8 +89,14 @@ fn push_actions(p: &Pddl, g: &Grounded, actions: &[u32], text: &mut Vec<u8>) -> 
     Ok(())
 }
 
-// Appends the lines of how a walk ended.
-fn push_end(p: &Pddl, g: &Grounded, how: How, end: &End, text: &mut Vec<u8>) -> Result<(), Memory>
+/// Appends the lines of how a walk ended.
+pub(crate) fn push_end(
+    p: &Pddl,
+    g: &Grounded,
+    how: How,
+    end: &End,
+    text: &mut Vec<u8>,
+) -> Result<(), Memory>
     requires { IsBelow (length g.now.calls) end.now }
     ensures lines { OnOk result (text.new.items ≡ text.old.items ++ joined (end_lines p.now g.now how end.now)) }
     ensures small { OnOk result (IsSmallEnd end.now) }

@@ -36,6 +36,17 @@ pub enum Request<'a> {
         problem: &'a str,
         certificate: &'a str,
     },
+    /// A certificate, by a search that meets so many obligations at most.
+    NeverSearch {
+        domain: &'a str,
+        problem: &'a str,
+        budget: u32,
+    },
+    /// The ground task as a transition system.
+    System {
+        domain: &'a str,
+        problem: &'a str,
+    },
 }
 
 impl<'a> Request<'a> {
@@ -49,7 +60,13 @@ impl<'a> Request<'a> {
                 problem,
                 ..
             }
-            | Request::Never { domain, problem } => Names {
+            | Request::Never { domain, problem }
+            | Request::System { domain, problem }
+            | Request::NeverSearch {
+                domain,
+                problem,
+                ..
+            } => Names {
                 domain,
                 problem,
                 third: None,

@@ -6,12 +6,12 @@ ghost use Rattle.plan_tasks.specs.Claims.{Printed, OfFiles};
 ghost use Rattle.search_top.specs.declared.request.How.{How};
 ghost use Rattle.search_top.specs.declared.request.How.TheVariants as how;
 ghost use Rattle.search_top.specs.Requested.{requested, command_named};
-ghost use Rattle.search_top.specs.Seen.{searches, nevers, certifies};
+ghost use Rattle.search_top.specs.Seen.{searches, nevers, certifies, explores, systems};
 ghost use Rattle.search_top.specs.Ended.{status_of, text_of};
 ghost use Rattle.search_top.specs.declared.ended.Finding.TheVariants as Finding;
 ghost use Rattle.search_top.specs.declared.ended.Ended.{Ended};
 ghost use Rattle.search_top.specs.Causes.{Comes, HasFault, names_in};
-ghost use Rattle.search_top.specs.Headline.{PlanRuns, PlanIsLeast, HasNoPlan, IsSpent, TellsExclusion, IsOpen, OfThree, IsJudgedAs};
+ghost use Rattle.search_top.specs.Headline.{PlanRuns, PlanIsLeast, HasNoPlan, IsSpent, TellsExclusion, IsOpen, OfThree, IsJudgedAs, TellsSet, IsSearched, TellsSystem};
 
 use crate::decide::decide;
 use crate::laws::laws;
@@ -76,6 +76,26 @@ pub fn run<H: Threads + Sync, S: Shelf, K: Sink>(
     ensures rejected { (text domain problem certificate : List ℕ) → result.0 ≡ 1 → Printed (K.taken sink.old) (K.taken sink.new) text
         → requested (map string_bytes words.now) ≡ Some (certifies domain problem certificate)
         → OfThree (S.heard shelf.old) (S.heard shelf.new) domain problem certificate (IsJudgedAs Finding.Rejected text) }
+
+    // Of `never-search`: with status 0 there is no plan of any length, and the text is a certificate of it; with status 1 its calls are a plan.
+    ensures explored { (domain problem : List ℕ) (budget : ℕ) → result.0 ≡ 0
+        → requested (map string_bytes words.now) ≡ Some (explores domain problem budget)
+        → OfFiles (S.heard shelf.old) (S.heard shelf.new) domain problem HasNoPlan }
+    ensures found { (text domain problem : List ℕ) (budget : ℕ) → result.0 ≡ 0 → Printed (K.taken sink.old) (K.taken sink.new) text
+        → requested (map string_bytes words.now) ≡ Some (explores domain problem budget)
+        → OfFiles (S.heard shelf.old) (S.heard shelf.new) domain problem (TellsSet text) }
+    ensures met { (text domain problem : List ℕ) (budget : ℕ) → result.0 ≡ 1 → Printed (K.taken sink.old) (K.taken sink.new) text
+        → requested (map string_bytes words.now) ≡ Some (explores domain problem budget)
+        → OfFiles (S.heard shelf.old) (S.heard shelf.new) domain problem (PlanRuns text) }
+    // With status 2 the budget is spent.
+    ensures searched { (domain problem : List ℕ) (budget : ℕ) → result.0 ≡ 2
+        → requested (map string_bytes words.now) ≡ Some (explores domain problem budget)
+        → OfFiles (S.heard shelf.old) (S.heard shelf.new) domain problem (IsSearched budget) }
+
+    // Of `system`: with status 0 the text is the task as a transition system.
+    ensures system_told { (text domain problem : List ℕ) → result.0 ≡ 0 → Printed (K.taken sink.old) (K.taken sink.new) text
+        → requested (map string_bytes words.now) ≡ Some (systems domain problem)
+        → OfFiles (S.heard shelf.old) (S.heard shelf.new) domain problem (TellsSystem text) }
 
     // Each status has its cause, and with every status but 6 the bytes taken are exactly the text due.
     ensures due { result.0 ≢ 6 → result.0 ≢ 8 → (end : Ended) × (result.0 ≡ status_of end)

@@ -6,7 +6,7 @@ ghost use Rattle.search_top.specs.Command.{Has};
 ghost use Rattle.search_top.specs.Seen.{seen, seen_in, how_of, IsSized};
 
 use crate::command::Name;
-use crate::limits::{MOST_MEMORY, MOST_STATES};
+use crate::limits::{MOST_MEMORY, MOST_OBLIGATIONS, MOST_STATES};
 use crate::request::{How, Request};
 use clap::ArgMatches;
 use requests::{number, text, texts};
@@ -36,6 +36,15 @@ pub(crate) fn request_in<'a>(name: Name, matches: &ArgMatches<'a>) -> Option<Req
             memory: number(matches, "memory", 1, MOST_MEMORY),
         }),
         Name::Never => never_in(matches),
+        Name::System => Some(Request::System {
+            domain: text(matches, "domain"),
+            problem: text(matches, "problem"),
+        }),
+        Name::NeverSearch => Some(Request::NeverSearch {
+            domain: text(matches, "domain"),
+            problem: text(matches, "problem"),
+            budget: number(matches, "budget", 1, MOST_OBLIGATIONS),
+        }),
     }
 }
 

@@ -3,7 +3,7 @@ use Rattle.plan_endings.specs.Ends.{end_in}
 use Rattle.plan_endings.proofs.published.Stopped.{end_answers}
 use Rattle.search_top.specs.declared.request.How.TheVariants as how
 use Rattle.search_top.specs.declared.ended.Ended.TheVariants.{Plain, Usage}
-use Rattle.search_top.proofs.Promises.{runs, least, no_plan, spent, never, excluded, left_open, certified, accepted, rejected, read_fault, usage, not_taken, no_command, status_apart}
+use Rattle.search_top.proofs.Promises.{runs, least, no_plan, spent, never, excluded, left_open, certified, accepted, rejected, explored, told_set, searched, met, system_told, read_fault, usage, not_taken, no_command, status_apart}
 use Rattle.search_top.proofs.top.run.Goals as goal
 
 pub finish-requires : goal.finish-requires
@@ -47,6 +47,21 @@ returns-clause-accepted g c text domain problem certificate zero printed is = ac
 
 pub returns-clause-rejected : goal.returns-clause-rejected
 returns-clause-rejected g c text domain problem certificate one printed is = rejected _ _ _ _ _ _ _ _ c.laws.ensures (returns-clause-due g c) domain problem certificate is text one printed
+
+pub returns-clause-explored : goal.returns-clause-explored
+returns-clause-explored g c domain problem budget zero is = explored _ _ _ _ _ _ _ _ c.laws.ensures (returns-clause-due g c) domain problem budget is zero
+
+pub returns-clause-found : goal.returns-clause-found
+returns-clause-found g c text domain problem budget zero printed is = told_set _ _ _ _ _ _ _ _ c.laws.ensures (returns-clause-due g c) domain problem budget is text zero printed
+
+pub returns-clause-searched : goal.returns-clause-searched
+returns-clause-searched g c domain problem budget two is = searched _ _ _ _ _ _ _ _ c.laws.ensures (returns-clause-due g c) domain problem budget is two
+
+pub returns-clause-met : goal.returns-clause-met
+returns-clause-met g c text domain problem budget one printed is = met _ _ _ _ _ _ _ _ c.laws.ensures (returns-clause-due g c) domain problem budget is text one printed
+
+pub returns-clause-system_told : goal.returns-clause-system_told
+returns-clause-system_told g c text domain problem zero printed is = system_told _ _ _ _ _ _ _ _ c.laws.ensures (returns-clause-due g c) domain problem is text zero printed
 
 pub returns-clause-read_fault : goal.returns-clause-read_fault
 returns-clause-read_fault g c = read_fault _ _ _ _ _ _ _ _ (returns-clause-due g c)
