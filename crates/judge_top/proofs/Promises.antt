@@ -1,13 +1,11 @@
 -- The promises of the top call, each from what it needs alone: mostly that its ending has a cause and that its text is written.
-use Rattle.std.proofs.Common.{◌≡◌, ◌≤◌, ◌+◌, ℕ, Bool, true, false, List, [], ◌∷◌, Option, Some, None, refl, sym, ap, subst, ◌∙◌, arith, inl, inr}
+use Rattle.std.proofs.Common.{◌≡◌, ◌≤◌, ℕ, Bool, true, false, List, [], ◌∷◌, Option, Some, None, refl, sym, ap, subst, ◌∙◌, arith, inl, inr}
 use Rattle.std.specs.Prelude.{Contains, ◌⊎◌}
 use Rattle.pl_io.specs.Outside.{Heard, Rose, appended}
 use Rattle.clause_base.specs.Formula.{Cnf}
 use Rattle.pl_io.specs.Tape.{Given, IsFileOf, IsReadOnce}
 use Rattle.pl_io.specs.declared.tape.Reading.TheVariants.{Lost}
 use Rattle.sat_text.specs.Dimacs.{formula_text}
-use Rattle.pd_task.specs.declared.error.PddlError.{PddlError}
-use Rattle.pd_task.specs.declared.error.PddlError.TheVariants as errors
 use Rattle.pd_model.specs.declared.parts.Parts.{Parts}
 use Rattle.grounding_defs.specs.Grounded.{Grounded}
 use Rattle.step_plans.specs.Known.{form_of, formula_at}
@@ -16,14 +14,13 @@ use Rattle.lrat_judge.specs.declared.verdict.Verdict.{Verdict}
 use Rattle.lrat_judge.specs.declared.verdict.Verdict.TheVariants as verdicts
 use Rattle.requests.specs.declared.request.Stepping.{Stepping}
 use Rattle.plan_endings.specs.Ending as plain
-use Rattle.plan_endings.specs.declared.ending.File.{File}
 use Rattle.plan_endings.specs.declared.ending.File.TheVariants.{Proof}
 use Rattle.plan_endings.specs.declared.ending.Ending.{Ending}
 use Rattle.plan_endings.specs.declared.ending.Ending.TheVariants.{Listing}
 use Rattle.plan_tasks.specs.Limits.{file_in}
-use Rattle.plan_tasks.specs.Files.{StopsFrom, RoseAmong}
+use Rattle.plan_tasks.specs.Files.{RoseAmong}
 use Rattle.plan_tasks.specs.Stepping.{places_by}
-use Rattle.plan_tasks.specs.Tasks.{AreTask, IsReady, StopsTask, refused, past, RefusesTask, domain_tree, problem_tree, no_task, refusal_of}
+use Rattle.plan_tasks.specs.Tasks.{AreTask, IsReady, StopsTask}
 use Rattle.plan_tasks.specs.Claims.{Printed, OfFiles}
 use Rattle.plan_tasks.specs.Laws.{TaskLaws}
 use Rattle.plan_tasks.proofs.published.Claims as claims
@@ -32,55 +29,20 @@ use Rattle.plan_report.specs.Laws.{IsSmallPlan}
 use Rattle.plan_tasks.specs.PlanLaws.{PlanLaws}
 use Rattle.plan_tasks.proofs.published.TellingPlans.{model_runs}
 use Rattle.plan_tasks.proofs.published.Printing.{printed_is}
+use Rattle.plan_tasks.proofs.published.Statuses.{task_between, files_between}
 use Rattle.plan_endings.proofs.published.Statuses.{six_seven, six_seven_eight}
 use Rattle.judge_top.specs.Seen.{Seen, formulas, judges, models, domain_of, problem_of}
 use Rattle.judge_top.specs.Requested.{requested}
 use Rattle.judge_top.specs.Ended.{status_of, text_of}
 use Rattle.judge_top.specs.declared.ended.Ended.{Ended}
 use Rattle.judge_top.specs.declared.ended.Ended.TheVariants.{Plain, Unread, Usage}
-use Rattle.judge_top.specs.Answers.{TapeRun, HasOpened, OnceReady, not_ready, ready, AnswersFormula, AnswersJudge, AnswersModel, too_large, formula, unread, judged, model, ended_by, IsUnread, TellsTooMany, word_of}
+use Rattle.proof_verdict.specs.Verdict.{TapeRun, HasOpened, IsUnread}
+use Rattle.judge_top.specs.Answers.{OnceReady, not_ready, ready, AnswersFormula, AnswersJudge, AnswersModel, too_large, formula, unread, judged, model, ended_by, TellsTooMany, word_of}
 use Rattle.judge_top.specs.declared.model.Told.TheVariants as tolds
 use Rattle.sat_text.specs.declared.value_reader.Refused.TheVariants as refusals
-use Rattle.judge_top.proofs.Given.{itself}
+use Rattle.proof_verdict.proofs.published.Given.{itself}
 use Rattle.judge_top.specs.Causes.{Answers, Comes, no_request, asked, ComesFor, StopsAt, OfTaken, HasFault, names_in, two_of}
 use Rattle.judge_top.specs.Headline.{IsProvedNone, PlanRunsIn, TellsFormula, WhenRead, OfVerdict, IsAccepted, IsRejected, IsNoProof, OrNoTask, TellsModel, TellsNoModel, TellsNoText, IsModelTold, IsNoModelTold, IsNoTextTold}
-
--- ---- statuses of what stops a run
-
-some_status : (k end : Ending) (n : ℕ) → Some k ≡ Some end → plain.status_of k ≡ n → plain.status_of end ≡ n
-some_status k end n e at = let same : k ≡ end = cc in subst (λ (x : Ending). plain.status_of x ≡ n) same at
-
--- the ending that tells of the cause for which two trees are no task
-refusal_three : (cause : PddlError) (end : Ending) → refusal_of cause ≡ Some end → plain.status_of end ≡ 3
-refusal_three (errors.Shape file at) end e = some_status _ end 3 e refl
-refusal_three (errors.Unknown file at) end e = some_status _ end 3 e refl
-refusal_three (errors.Arity file at) end e = some_status _ end 3 e refl
-refusal_three (errors.Duplicate file at) end e = some_status _ end 3 e refl
-refusal_three (errors.Unsupported file at) end e = some_status _ end 3 e refl
-refusal_three errors.Memory end e = absurd (let never : None ≡ Some end = e in cc)
-
-refused_three : (domain problem : List ℕ) (end : Ending) → RefusesTask domain problem end → plain.status_of end ≡ 3
-refused_three domain problem end (domain_tree h) = ap plain.status_of h.2
-refused_three domain problem end (problem_tree first reads h) = ap plain.status_of h.2
-refused_three domain problem end (no_task first second reads also h) = refusal_three h.0 end h.2
-
--- two files that are no task within the limits
-task_between : (domain problem : List ℕ) (end : Ending) → StopsTask domain problem end → (3 ≤ plain.status_of end) × (plain.status_of end ≤ 4)
-task_between domain problem end (refused r) = let three = refused_three domain problem end r in (omega (arith, three), omega (arith, three))
-task_between domain problem end (past task are over) = let four = ap plain.status_of over.2 in (omega (arith, four), omega (arith, four))
-
--- a file that stops a run: it could not be read, or is too long
-files_between : (failed fails : List (List ℕ)) (files : ℕ → File) (place : ℕ) (names : List (List ℕ)) (took : List Heard) (end : Ending) → StopsFrom failed fails files place names took end
-    → ((plain.status_of end ≡ 5) × RoseAmong names failed fails) ⊎ (plain.status_of end ≡ 4)
-files_between failed fails files place [] took end h = absurd h
-files_between failed fails files place (name ∷ names) [] end (inl fault) = inl (ap plain.status_of fault.0, inl fault.1)
-files_between failed fails files place (name ∷ names) [] end (inr long) = inr (ap plain.status_of long.0)
-files_between failed fails files place (name ∷ names) (heard ∷ took) end (inl (inl fault)) = inl (ap plain.status_of fault.0, inl fault.1)
-files_between failed fails files place (name ∷ names) (heard ∷ took) end (inl (inr long)) = inr (ap plain.status_of long.0)
-files_between failed fails files place (name ∷ names) (heard ∷ took) end (inr more) = elim (files_between failed fails files (place + 1) names took end more.1) [
-  | inl h ↦ inl (h.0, inr h.1)
-  | inr h ↦ inr h
-]
 
 -- a verdict has a status of its own
 verdict_low : (horizon : ℕ) (verdict : Verdict) → status_of (ended_by horizon verdict) ≤ 4

@@ -4,9 +4,9 @@
 //! `specs/Headline.antt` says what is promised, and `specs/Causes.antt` when each answer comes.
 //!
 //! `read` reads the words. `decide` takes the two files, grounds the task and builds the formula of the horizon (`formula`), and either gives it as
-//! text (`told`) or hands the proof, piece by piece as a `Tape` gives it, to lrat_judge (`verdict`). In memory are the formula, what was learned,
-//! and one line. `answer` has one function a command; for `model`, `model` has the values read and tested, and the steps that they stand for
-//! by the form. `ended` has how a run ends, and `written` writes it.
+//! text (`told`) or has the proof judged that a `Tape` gives (by proof_verdict). In memory are the formula, what was learned, and one line.
+//! `answer` has one function a command; for `model`, `model` has the values read and tested, and the steps that they stand for by the form.
+//! `ended` has how a run ends.
 #![tactic(auto)]
 
 mod answer;
@@ -20,7 +20,6 @@ mod request;
 mod told;
 mod top;
 mod values;
-mod verdict;
 
 pub use ended::Ended;
 pub use plan_endings::Status;

@@ -1,7 +1,8 @@
 use Rattle.std.proofs.Common.{refl, subst, ap, Ok}
 use Rattle.gt_core.specs.Task.{Task}
 use Rattle.plan_tasks.specs.Stepping.{places_by, is_plan_by}
-use Rattle.judge_top.specs.Answers.{ready, too_large, unread, judged, IsUnread, OfKnown, IsFormula, TellsTooMany}
+use Rattle.proof_verdict.specs.Verdict.{IsUnread}
+use Rattle.judge_top.specs.Answers.{ready, too_large, unread, judged, OfKnown, IsFormula, TellsTooMany}
 use Rattle.judge_top.proofs.Handed.{files_handed, task_handed}
 use Rattle.judge_top.proofs.Formulas.{has_none, is_verdict}
 use Rattle.judge_top.proofs.answer.answer_judge.Goals as goal

@@ -1,6 +1,6 @@
 use Rattle.std.proofs.Common.{◌∙◌, ap, refl, inl, inr}
 use Rattle.pl_io.specs.Tape.{Given}
-use Rattle.judge_top.specs.Answers.{tape_run}
+use Rattle.proof_verdict.specs.Verdict.{tape_run}
 use Rattle.judge_top.proofs.Deciding.{judged_before}
 use Rattle.judge_top.proofs.Handed.{handed, weaker}
 use Rattle.judge_top.proofs.decide.answer.Goals as goal

@@ -1,6 +1,6 @@
 use Rattle.std.proofs.Common.{◌∙◌, Err, ap, refl, inl, inr}
 use Rattle.pl_io.specs.Tape.{Given}
-use Rattle.judge_top.specs.Answers.{tape_run}
+use Rattle.proof_verdict.specs.Verdict.{tape_run}
 use Rattle.judge_top.proofs.Deciding.{model_before}
 use Rattle.judge_top.proofs.Handed.{weaker}
 use Rattle.judge_top.proofs.decide.answer_opened.Goals as goal
