@@ -8,15 +8,15 @@ ghost use Rattle.judge_top.specs.Answers.{EndsWith, OnceReady, AnswersFormula, A
 ghost use Rattle.horizon_rates.specs.Limits.{last_horizon};
 
 use crate::Ended;
-use crate::formula::formula_by;
+use crate::formula::{formula_by, word_of};
 use crate::model::{Told, told_by};
-use crate::told::{told, word_of};
 use lrat_judge::verdict::Verdict;
 use pl_io::{Bytes, Tape};
 use plan_endings::Ending;
 use plan_endings::stop::Stop;
 use plan_report::plan_text;
 use plan_tasks::ready::{Ready, read_ready};
+use proof_verdict::told::told;
 use proof_verdict::verdict::verdict_on;
 use requests::Stepping;
 use sat_text::value_reader::Refused;

@@ -3,8 +3,8 @@
 //!
 //! `specs/Headline.antt` says what is promised, and `specs/Causes.antt` when each answer comes.
 //!
-//! `read` reads the words. `decide` takes the two files, grounds the task and builds the formula of the horizon (`formula`), and either gives it as
-//! text (`told`) or has the proof judged that a `Tape` gives (by proof_verdict). In memory are the formula, what was learned, and one line.
+//! `read` reads the words. `decide` takes the two files, grounds the task and builds the formula of the horizon (`formula`), and either has
+//! its text told or the proof judged that a `Tape` gives (both by proof_verdict). In memory are the formula, what was learned, and one line.
 //! `answer` has one function a command; for `model`, `model` has the values read and tested, and the steps that they stand for by the form.
 //! `ended` has how a run ends.
 #![tactic(auto)]
@@ -17,7 +17,6 @@ mod formula;
 mod model;
 mod read;
 mod request;
-mod told;
 mod top;
 mod values;
 
