@@ -3,10 +3,12 @@ use Rattle.std.specs.Prelude.{nat_lt, nat_le, slice_index_or}
 use Rattle.std.specs.List.{list_all, AllByRecursion}
 use Rattle.std.proofs.lemmas.Bool.Decides.{nat_tests}
 use Rattle.gt_core.specs.Task.{Effect, Task, action, precondition}
-use Rattle.gt_core.specs.Lawful.{are_rising, is_literal_set, are_effects, is_action, is_task, follows, conditional_in}
+use Rattle.gt_core.specs.Lawful.{are_rising, is_literal_set, are_effects, is_action, is_within, is_task, is_wide, follows, conditional_in}
 use Rattle.gt_core.specs.Active.{EffectWithin}
 use Rattle.gt_core.proofs.published.Basics.{Among, and_split, all_at, each_at, each_from}
-use Rattle.gt_core.specs.Limits.{most_facts, most_actions, most_conditional}
+use Rattle.gt_core.specs.Limits.{most_facts, most_actions, most_conditional, race_limits}
+use Rattle.gt_core.specs.declared.limits.Limits.{Limits}
+use Rattle.std.proofs.lemmas.Bool.{and_from}
 
 -- The literals of a task are in range.
 
@@ -63,13 +65,41 @@ among_at [] k d lt = absurd (omega arith)
 among_at (x ∷ xs) zero d lt = inl refl
 among_at (x ∷ xs) (suc k) d lt = inr (among_at xs k d (omega arith))
 
+-- what a task within limits keeps of its actions
+each_within : (l : Limits) (task : Task) → is_within l task ≡ true → list_all (is_action task.facts) task.actions ≡ true
+each_within l task e =
+    let a = and_split (nat_le task.facts l.facts) _ e in
+    let b = and_split (nat_le (length task.actions) l.actions) _ a.1 in
+    let c = and_split (nat_le (conditional_in task.actions) l.conditional) _ b.1 in
+    let d = and_split (length task.initial == task.facts) _ c.1 in
+    (and_split (is_literal_set task.facts task.goal) _ d.1).1
+
+action_in : (l : Limits) (task : Task) (a : ℕ) → is_within l task ≡ true → a < length task.actions → is_action task.facts (action task a) ≡ true
+action_in l task a e lt = all_at (is_action task.facts) task.actions (action task a) (each_within l task e) (among_at task.actions a _ lt)
+
 pub action_lawful : (task : Task) (a : ℕ) → is_task task ≡ true → a < length task.actions → is_action task.facts (action task a) ≡ true
-action_lawful task a e lt = all_at (is_action task.facts) task.actions (action task a) (lawful task e).each (among_at task.actions a _ lt)
+action_lawful task a e lt = action_in race_limits task a e lt
 
 -- the literals of a precondition are of the task's facts
+pub precondition_in : (l : Limits) (task : Task) (a : ℕ) → is_within l task ≡ true → a < length task.actions → AllByRecursion (λ p. p / 2 < task.facts) (precondition task a)
+precondition_in l task a e lt = literals_within task.facts (precondition task a) (and_split (is_literal_set task.facts (precondition task a)) _ (action_in l task a e lt)).0
+
 pub precondition_within : (task : Task) (a : ℕ) → is_task task ≡ true → a < length task.actions → AllByRecursion (λ l. l / 2 < task.facts) (precondition task a)
-precondition_within task a e lt = literals_within task.facts (precondition task a) (and_split (is_literal_set task.facts (precondition task a)) _ (action_lawful task a e lt)).0
+precondition_within task a e lt = precondition_in race_limits task a e lt
 
 -- so are the literals of its effects
+pub action_effects_in : (l : Limits) (task : Task) (a : ℕ) → is_within l task ≡ true → a < length task.actions → AllByRecursion (EffectWithin task.facts) (action task a).effects
+action_effects_in l task a e lt = effects_within task.facts None (action task a).effects (and_split (is_literal_set task.facts (precondition task a)) _ (action_in l task a e lt)).1
+
 pub action_effects_within : (task : Task) (a : ℕ) → is_task task ≡ true → a < length task.actions → AllByRecursion (EffectWithin task.facts) (action task a).effects
-action_effects_within task a e lt = effects_within task.facts None (action task a).effects (and_split (is_literal_set task.facts (precondition task a)) _ (action_lawful task a e lt)).1
+action_effects_within task a e lt = action_effects_in race_limits task a e lt
+
+-- what can be encoded can be searched
+pub wide_task : (task : Task) → is_task task ≡ true → is_wide task ≡ true
+wide_task task e =
+    let h = lawful task e in
+    and_from _ _ (let le = h.facts in grind (arith, nat_tests))
+    (and_from _ _ (let le = h.actions in grind (arith, nat_tests))
+    (and_from _ _ (let le = h.conditional in grind (arith, nat_tests))
+    (and_from _ _ (let is = h.initial in grind (arith, nat_tests))
+    (and_from _ _ h.goal h.each))))
