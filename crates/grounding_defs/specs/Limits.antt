@@ -1,7 +1,7 @@
 -- The limits of grounding, in the order in which they are tested.
-use Rattle.std.specs.Prelude.{ℕ, ◌≡◌, ◌<◌, ◌≤◌, length, Option, None, Some}
+use Rattle.std.specs.Prelude.{ℕ, ◌≡◌, ◌<◌, ◌≤◌, length}
 use Rattle.gt_core.specs.Lawful.{conditional_in}
-use Rattle.gt_core.specs.Limits.{race_limits, wide_limits}
+use Rattle.gt_core.specs.Limits.{most_wide_facts, most_wide_actions, most_wide_conditional, race_limits, wide_limits}
 use Rattle.gt_core.specs.declared.limits.Limits.{Limits}
 use Rattle.pd_model.specs.declared.parts.Parts.{Parts}
 use Rattle.grounding_defs.specs.Grounded.{Grounded, IsGrounded}
@@ -11,46 +11,47 @@ use Rattle.grounding_defs.specs.Tuples.{tuples_in, saturated}
 abbrev pub most_tuples : ℕ
 most_tuples = 4000000
 
--- a limit on tuples, where there is one, and those of the task
+-- how many tuples a task may have from which states are searched
+abbrev pub most_wide_tuples : ℕ
+most_wide_tuples = 1000000000000000000
+
+-- the limit on tuples and those of the task
 pub record Bounds : Type 0 where
-  pub tuples : Option ℕ
+  pub tuples : ℕ
   pub task : Limits
 
 -- the limits of what is encoded
 abbrev pub race_bounds : Bounds
-race_bounds = record { tuples = Some most_tuples; task = race_limits }
+race_bounds = record { tuples = most_tuples; task = race_limits }
 
 -- the limits of what is searched state by state
 abbrev pub wide_bounds : Bounds
-wide_bounds = record { tuples = None; task = wide_limits }
+wide_bounds = record { tuples = most_wide_tuples; task = wide_limits }
 
--- a count is within a limit, where there is one
-abbrev pub IsAtMost : Option ℕ → ℕ → Type 0
-IsAtMost None count = Unit {0}
-IsAtMost (Some most) count = count ≤ most
-
--- there is a limit, and a count is past it
-abbrev pub IsPast : Option ℕ → ℕ → Type 0
-IsPast None count = ⊥
-IsPast (Some most) count = most < count
+-- limits that are nowhere wider than those of what is searched
+pub record AreBounds (bounds : Bounds) : Type 0 where
+  pub tuples : bounds.tuples ≤ most_wide_tuples
+  pub facts : bounds.task.facts ≤ most_wide_facts
+  pub actions : bounds.task.actions ≤ most_wide_actions
+  pub conditional : bounds.task.conditional ≤ most_wide_conditional
 
 -- within all limits
 pub record IsBounded (bounds : Bounds) (p : Parts) (g : Grounded) : Type 0 where
-  pub tuples : IsAtMost bounds.tuples (tuples_in p)
+  pub tuples : tuples_in p ≤ bounds.tuples
   pub facts : length g.facts ≤ bounds.task.facts
   pub actions : length g.calls ≤ bounds.task.actions
   pub effects : conditional_in g.task.actions ≤ bounds.task.conditional
 
 -- the task has more tuples than the limit says, so many
 pub record HasTuples (bounds : Bounds) (p : Parts) (count : ℕ) : Type 0 where
-  pub over : IsPast bounds.tuples (tuples_in p)
+  pub over : bounds.tuples < tuples_in p
   pub count_is : count ≡ saturated (tuples_in p)
 
 -- the tuples are within their limit, and there are too many facts, so many
 pub record HasFacts (bounds : Bounds) (p : Parts) (count : ℕ) : Type 0 where
   pub grounded : Grounded
   pub is : IsGrounded p grounded
-  pub tuples : IsAtMost bounds.tuples (tuples_in p)
+  pub tuples : tuples_in p ≤ bounds.tuples
   pub over : bounds.task.facts < length grounded.facts
   pub count_is : count ≡ length grounded.facts
 
@@ -58,7 +59,7 @@ pub record HasFacts (bounds : Bounds) (p : Parts) (count : ℕ) : Type 0 where
 pub record HasActions (bounds : Bounds) (p : Parts) (count : ℕ) : Type 0 where
   pub grounded : Grounded
   pub is : IsGrounded p grounded
-  pub tuples : IsAtMost bounds.tuples (tuples_in p)
+  pub tuples : tuples_in p ≤ bounds.tuples
   pub facts : length grounded.facts ≤ bounds.task.facts
   pub over : bounds.task.actions < length grounded.calls
   pub count_is : count ≡ length grounded.calls
@@ -67,7 +68,7 @@ pub record HasActions (bounds : Bounds) (p : Parts) (count : ℕ) : Type 0 where
 pub record HasEffects (bounds : Bounds) (p : Parts) (count : ℕ) : Type 0 where
   pub grounded : Grounded
   pub is : IsGrounded p grounded
-  pub tuples : IsAtMost bounds.tuples (tuples_in p)
+  pub tuples : tuples_in p ≤ bounds.tuples
   pub facts : length grounded.facts ≤ bounds.task.facts
   pub actions : length grounded.calls ≤ bounds.task.actions
   pub over : bounds.task.conditional < conditional_in grounded.task.actions
