@@ -2,7 +2,7 @@
 ghost use Rattle.std.specs.Prelude.{◌≡◌, IfOk};
 ghost use Rattle.clap.specs.Words.{app_of};
 ghost use Rattle.requests.specs.Arguments.{TakesWords};
-ghost use Rattle.search_top.specs.Command.{command_of, named, how_words, word_of};
+ghost use Rattle.search_top.specs.Command.{command_of, named, list_words};
 
 use crate::limits::{MOST_MEMORY, MOST_OBLIGATIONS, MOST_STATES};
 use clap::Command;
@@ -24,9 +24,13 @@ pub enum Name {
     Never,
     NeverSearch,
     System,
+    NeverFormula,
+    NeverJudge,
 }
 
 static HOW: [&str; 2] = ["greedy", "least"];
+
+static FORMATS: [&str; 2] = ["blif", "aiger"];
 
 /// The command that a word names.
 pub(crate) fn name_of(word: &str) -> Option<Name>
@@ -37,15 +41,20 @@ pub(crate) fn name_of(word: &str) -> Option<Name>
         "never" => Some(Name::Never),
         "never-search" => Some(Name::NeverSearch),
         "system" => Some(Name::System),
+        "never-formula" => Some(Name::NeverFormula),
+        "never-judge" => Some(Name::NeverJudge),
         _ => None,
     }
 }
 
-/// The reader of how a walk goes.
-pub(crate) fn how_reader() -> ValueParser<'static>
-    ensures { TakesWords how_words result }
+/// The reader of the option of a command that takes a word of a list.
+pub(crate) fn list_reader(name: Name) -> ValueParser<'static>
+    ensures { TakesWords (list_words name) result }
 {
-    ValueParser::Names(HOW.as_slice())
+    match name {
+        Name::System => ValueParser::Names(FORMATS.as_slice()),
+        _ => ValueParser::Names(HOW.as_slice()),
+    }
 }
 
 /// The command of this name.
@@ -80,7 +89,30 @@ pub(crate) fn command_by<'a>(
         Name::System => with_all(
             alloc,
             "system",
-            &[Argument::Word("domain"), Argument::Word("problem")],
+            &[
+                Argument::Word("domain"),
+                Argument::Word("problem"),
+                Argument::Long("format", by, "blif"),
+            ],
+        ),
+        Name::NeverFormula => with_all(
+            alloc,
+            "never-formula",
+            &[
+                Argument::Word("domain"),
+                Argument::Word("problem"),
+                Argument::Word("certificate"),
+            ],
+        ),
+        Name::NeverJudge => with_all(
+            alloc,
+            "never-judge",
+            &[
+                Argument::Word("domain"),
+                Argument::Word("problem"),
+                Argument::Word("certificate"),
+                Argument::Word("proof"),
+            ],
         ),
         Name::NeverSearch => with_all(
             alloc,
