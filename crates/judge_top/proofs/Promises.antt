@@ -30,7 +30,7 @@ use Rattle.plan_tasks.specs.PlanLaws.{PlanLaws}
 use Rattle.plan_tasks.proofs.published.TellingPlans.{model_runs}
 use Rattle.plan_tasks.proofs.published.Printing.{printed_is}
 use Rattle.plan_tasks.proofs.published.Statuses.{task_between, files_between}
-use Rattle.plan_endings.proofs.published.Statuses.{six_seven, six_seven_eight}
+use Rattle.plan_endings.proofs.published.Words as by_words
 use Rattle.judge_top.specs.Seen.{Seen, formulas, judges, models, domain_of, problem_of}
 use Rattle.judge_top.specs.Requested.{requested}
 use Rattle.judge_top.specs.Ended.{status_of, text_of}
@@ -168,11 +168,7 @@ module _ (heard hears : List Heard) (failed fails : List (List ℕ)) (tape : Tap
 
   -- no ending that comes has a status of its own for a write fault or for want of memory
   pub status_apart : (words : List (List ℕ)) (end : Ended) → Comes heard hears failed fails tape words end → (status_of end ≡ 6 → ⊥) × (status_of end ≡ 8 → ⊥)
-  status_apart words end h = elim (words_low words end h) [
-    | inl k ↦ (let seven = k.0 in (λ six. omega (arith, seven, six), λ eight. omega (arith, seven, eight)))
-    | inr (inl k) ↦ (let five = k.0 in (λ six. omega (arith, five, six), λ eight. omega (arith, five, eight)))
-    | inr (inr low) ↦ (λ six. omega (arith, low, six), λ eight. omega (arith, low, eight))
-  ]
+  status_apart words = by_words.status_apart status_of _ _ _ (words_low words)
 
 -- ---- what is promised
 
@@ -186,9 +182,7 @@ module _ (heard hears : List Heard) (failed fails : List (List ℕ)) (tape : Tap
   IsDue = (status ≡ 6 → ⊥) → (status ≡ 8 → ⊥) → (end : Ended) × (status ≡ status_of end) × Comes heard hears failed fails tape words end × (after ≡ appended before (text_of end))
 
   due_at : (k : ℕ) → IsDue → status ≡ k → k ≤ 5 → (end : Ended) × (status_of end ≡ k) × Comes heard hears failed fails tape words end × (after ≡ appended before (text_of end))
-  due_at k due is low =
-      let d = due (λ six. absurd (omega arith)) (λ eight. absurd (omega arith)) in
-      (d.0, sym d.1 ∙ is, d.2, d.3)
+  due_at k due = by_words.due_at status_of _ _ _ (words_low heard hears failed fails tape words) status _ due k
 
   -- what comes of words that ask for this
   comes_for : (request : Seen) (end : Ended) → requested words ≡ Some request → Comes heard hears failed fails tape words end → ComesFor heard hears failed fails tape request end
@@ -426,35 +420,18 @@ module _ (heard hears : List Heard) (failed fails : List (List ℕ)) (tape : Tap
 
   -- ---- words and faults
 
-  usage_only : (end : Ended) → status_of end ≡ 7 → Comes heard hears failed fails tape words end → requested words ≡ None
-  usage_only end seven h = elim (words_low heard hears failed fails tape words end h) [
-    | inl k ↦ k.1
-    | inr (inl k) ↦ absurd (let five = k.0 in omega (arith, five, seven))
-    | inr (inr low) ↦ absurd (omega (arith, low, seven))
-  ]
-
   pub usage : IsDue → status ≡ 7 → requested words ≡ None
-  usage due seven = let d = due (λ six. absurd (omega arith)) (λ eight. absurd (omega arith)) in usage_only d.0 (sym d.1 ∙ seven) d.2
-
-  fault_of : (end : Ended) → status_of end ≡ 5 → Comes heard hears failed fails tape words end → HasFault failed fails tape.faults tape.rises words
-  fault_of end five h = elim (words_low heard hears failed fails tape words end h) [
-    | inl k ↦ absurd (let seven = k.0 in omega (arith, five, seven))
-    | inr (inl k) ↦ k.1
-    | inr (inr low) ↦ absurd (omega (arith, low, five))
-  ]
+  usage due = by_words.usage status_of _ _ _ (words_low heard hears failed fails tape words) status _ due
 
   pub read_fault : IsDue → status ≡ 5 → HasFault failed fails tape.faults tape.rises words
-  read_fault due five = let d = due_at 5 due five (omega arith) in fault_of d.0 d.1 d.2
+  read_fault due = by_words.read_fault status_of _ _ _ (words_low heard hears failed fails tape words) status _ due
 
   not_asked : requested words ≡ None → (end : Ended) → Comes heard hears failed fails tape words end → end ≡ Usage
   not_asked none end (no_request also e) = e
   not_asked none end (asked request is h) = absurd (let never : None ≡ Some request = sym none ∙ is in cc)
 
-  seven : IsDue → requested words ≡ None → (status ≡ 6 → ⊥) → (status ≡ 8 → ⊥) → status ≡ 7
-  seven due none not_six not_eight = let d = due not_six not_eight in d.1 ∙ ap status_of (not_asked none d.0 d.2)
-
   pub not_taken : IsDue → requested words ≡ None → Contains (6 ∷ 7 ∷ 8 ∷ []) status
-  not_taken due none = six_seven_eight status (seven due none)
+  not_taken due none = by_words.not_taken status_of _ _ _ (words_low heard hears failed fails tape words) status _ due Usage refl (not_asked none)
 
   pub no_command : IsDue → requested words ≡ None → (status ≡ 8 → ⊥) → Contains (6 ∷ 7 ∷ []) status
-  no_command due none not_eight = six_seven status (λ not_six. seven due none not_six not_eight)
+  no_command due none = by_words.no_command status_of _ _ _ (words_low heard hears failed fails tape words) status _ due Usage refl (not_asked none)

@@ -30,6 +30,8 @@ use Rattle.plan_endings.specs.Ends as ends
 use Rattle.plan_endings.specs.declared.stop.Stop.{Stop}
 use Rattle.plan_tasks.specs.Stepping.{places_by, is_plan_by}
 use Rattle.plan_tasks.specs.Tasks.{AreTask, IsReady, StopsTask}
+use Rattle.judge_top.specs.declared.answer.Open.{Open}
+use Rattle.judge_top.specs.declared.answer.Open.TheVariants as opens
 use Rattle.judge_top.specs.declared.ended.Ended.{Ended}
 use Rattle.judge_top.specs.declared.ended.Ended.TheVariants.{Plain, Refuted, Rejected, TooLong, Syntax, NoModel, NoText, Unread}
 use Rattle.judge_top.specs.declared.model.Given.{Given}
@@ -152,3 +154,8 @@ ended_with task g horizon (told.Plan steps) = Plain (Listing (plan_text task g h
 pub data AnswersModel (how : Stepping) (horizon : ℕ) (tape : TapeRun) (task : Parts) (g : Grounded) (end : Ended) : Type 0 where
   too_large : (plain : Ending) → TellsTooMany (places_by how) horizon g.task plain → end ≡ Plain plain → AnswersModel how horizon tape task g end
   model : (said : Told) → OfKnown g.task (IsTold (places_by how) horizon tape said) → IsSmallTold horizon said → end ≡ ended_with task g horizon said → AnswersModel how horizon tape task g end
+
+-- what the file on the tape comes to, of whichever kind it is
+abbrev pub AnswersOpen : Open → Stepping → ℕ → TapeRun → Parts → Grounded → Ended → Type 0
+AnswersOpen opens.Proof = AnswersJudge
+AnswersOpen opens.Model = AnswersModel

@@ -10,7 +10,7 @@ ghost use Rattle.judge_top.specs.Answers.{EndsWith};
 ghost use Rattle.judge_top.specs.Causes.{Answers, OfModel, ComesFor, Comes, names_in, two_of};
 ghost use Rattle.horizon_rates.specs.Limits.{last_horizon};
 
-use crate::answer::{answer_formula, answer_judge, answer_model};
+use crate::answer::{Open, answer_formula, answer_open};
 use crate::{Ended, Request};
 use pl_io::{Shelf, TakeError, Tape};
 use plan_endings::File;
@@ -100,7 +100,16 @@ fn answer<H: Threads + Sync, T: Tape>(
             ..
         } => {
             open(tape, proof)?;
-            answer_judge(rt, alloc, first, second, *horizon, *stepping, tape)
+            answer_open(
+                rt,
+                alloc,
+                first,
+                second,
+                *horizon,
+                *stepping,
+                Open::Proof,
+                tape,
+            )
         }
         Request::Model {
             horizon,
@@ -129,7 +138,7 @@ fn answer_opened<H: Threads + Sync, T: Tape>(
     ensures tape_faults { T.faults tape.old ≤ T.faults tape.new }
 {
     match tape.open(model) {
-        Ok(()) => answer_model(rt, alloc, first, second, horizon, steps, tape),
+        Ok(()) => answer_open(rt, alloc, first, second, horizon, steps, Open::Model, tape),
         Err(TakeError::Failed) => Ok(Ended::Unread),
         Err(TakeError::Memory) => Err(Stop::Memory),
     }

@@ -89,17 +89,8 @@ answer_batch-requires-clause-problems g c κs within =
     let batch = batch_of c.in-Batch.is c.requires.sized in
     let met = files_in c.in-Batch.is c.as_slice.result.now c.as_slice.ensures (λ (file : ℕ → File) (names : List (List ℕ)). AreTakenOrLong file 0 names taken.0 (files.domain ∷ files.problems.items)) taken.2 in
     let fit = files_fit taken.0 (g.S.Shelf.failed c.args.shelf.now) (g.S.Shelf.failed c.take_batch.new.shelf) c.in-Batch.settings c.in-Batch.turns (seen c.args.request.now) batch _ _ refl met in
-    rw c.as_slice-problems.ensures.value fit.0.1
-
-pub answer_batch-requires-clause-few : goal.answer_batch-requires-clause-few
-answer_batch-requires-clause-few g c κs within =
-    let files = c.in_ok-files-in-Batch.files in
-    let taken = c.in_ok-files-in-Batch.ensures.taken in
-    let batch = batch_of c.in-Batch.is c.requires.sized in
-    let met = files_in c.in-Batch.is c.as_slice.result.now c.as_slice.ensures (λ (file : ℕ → File) (names : List (List ℕ)). AreTakenOrLong file 0 names taken.0 (files.domain ∷ files.problems.items)) taken.2 in
-    let fit = files_fit taken.0 (g.S.Shelf.failed c.args.shelf.now) (g.S.Shelf.failed c.take_batch.new.shelf) c.in-Batch.settings c.in-Batch.turns (seen c.args.request.now) batch _ _ refl met in
     let few = fit.1 in
-    rw c.as_slice-problems.ensures.value (omega (arith, few))
+    rw c.as_slice-problems.ensures.value (fit.0.1, omega (arith, few))
 
 pub returns-in_ok-files-in-Batch-clause-cause : goal.returns-in_ok-files-in-Batch-clause-cause
 returns-in_ok-files-in-Batch-clause-cause g c took handed words asked =
