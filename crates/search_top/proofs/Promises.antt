@@ -23,7 +23,7 @@ use Rattle.state_search.specs.declared.answer.End.TheVariants as ends
 use Rattle.plan_endings.specs.Ending as plain
 use Rattle.plan_endings.specs.declared.ending.Ending.{Ending}
 use Rattle.plan_endings.specs.declared.ending.File.TheVariants.{Proof}
-use Rattle.plan_endings.proofs.published.Statuses.{six_seven, six_seven_eight}
+use Rattle.plan_endings.proofs.published.Words as by_words
 use Rattle.plan_tasks.specs.Limits.{file_in}
 use Rattle.plan_tasks.specs.Files.{AreTaken, RoseAmong}
 use Rattle.plan_tasks.proofs.published.Hearing.{two_taken, three_taken}
@@ -212,11 +212,7 @@ module _ (heard hears : List Heard) (failed fails : List (List ℕ)) (tape : Tap
 
   -- no ending that comes has a status of its own for a write fault or for want of memory
   pub status_apart : (words : List (List ℕ)) (end : Ended) → Comes heard hears failed fails tape words end → (status_of end ≡ 6 → ⊥) × (status_of end ≡ 8 → ⊥)
-  status_apart words end h = elim (words_low words end h) [
-    | inl k ↦ (let seven = k.0 in (λ six. omega (arith, seven, six), λ eight. omega (arith, seven, eight)))
-    | inr (inl k) ↦ (let five = k.0 in (λ six. omega (arith, five, six), λ eight. omega (arith, five, eight)))
-    | inr (inr low) ↦ (λ six. omega (arith, low, six), λ eight. omega (arith, low, eight))
-  ]
+  status_apart words = by_words.status_apart status_of _ _ _ (words_low words)
 
 -- ---- what a walk came to, by its status
 
@@ -688,35 +684,18 @@ module _ (heard hears : List Heard) (failed fails : List (List ℕ)) (tape : Tap
 
   -- ---- words and faults
 
-  usage_only : (end : Ended) → status_of end ≡ 7 → Comes heard hears failed fails tape words end → requested words ≡ None
-  usage_only end seven h = elim (words_low heard hears failed fails tape words end h) [
-    | inl k ↦ k.1
-    | inr (inl k) ↦ absurd (let five = k.0 in omega (arith, five, seven))
-    | inr (inr low) ↦ absurd (omega (arith, low, seven))
-  ]
-
   pub usage : IsDue → status ≡ 7 → requested words ≡ None
-  usage due seven = let d = due (λ six. absurd (omega arith)) (λ eight. absurd (omega arith)) in usage_only d.0 (sym d.1 ∙ seven) d.2
-
-  fault_of : (end : Ended) → status_of end ≡ 5 → Comes heard hears failed fails tape words end → HasFault failed fails tape.faults tape.rises words
-  fault_of end five h = elim (words_low heard hears failed fails tape words end h) [
-    | inl k ↦ absurd (let seven = k.0 in omega (arith, five, seven))
-    | inr (inl k) ↦ k.1
-    | inr (inr low) ↦ absurd (omega (arith, low, five))
-  ]
+  usage due = by_words.usage status_of _ _ _ (words_low heard hears failed fails tape words) status _ due
 
   pub read_fault : IsDue → status ≡ 5 → HasFault failed fails tape.faults tape.rises words
-  read_fault due five = let d = due (λ six. absurd (omega arith)) (λ eight. absurd (omega arith)) in fault_of d.0 (sym d.1 ∙ five) d.2
+  read_fault due = by_words.read_fault status_of _ _ _ (words_low heard hears failed fails tape words) status _ due
 
   not_asked : requested words ≡ None → (end : Ended) → Comes heard hears failed fails tape words end → end ≡ Usage
   not_asked none end (no_request also e) = e
   not_asked none end (asked request is h) = absurd (let never : None ≡ Some request = sym none ∙ is in cc)
 
-  seven : IsDue → requested words ≡ None → (status ≡ 6 → ⊥) → (status ≡ 8 → ⊥) → status ≡ 7
-  seven due none not_six not_eight = let d = due not_six not_eight in d.1 ∙ ap status_of (not_asked none d.0 d.2)
-
   pub not_taken : IsDue → requested words ≡ None → Contains (6 ∷ 7 ∷ 8 ∷ []) status
-  not_taken due none = six_seven_eight status (seven due none)
+  not_taken due none = by_words.not_taken status_of _ _ _ (words_low heard hears failed fails tape words) status _ due Usage refl (not_asked none)
 
   pub no_command : IsDue → requested words ≡ None → (status ≡ 8 → ⊥) → Contains (6 ∷ 7 ∷ []) status
-  no_command due none not_eight = six_seven status (λ not_six. seven due none not_six not_eight)
+  no_command due none = by_words.no_command status_of _ _ _ (words_low heard hears failed fails tape words) status _ due Usage refl (not_asked none)
