@@ -2,6 +2,8 @@
 ghost use Rattle.std.specs.Prelude.{◌≡◌, ◌≤◌, ◌++◌, ◌∷◌, [], length, Some, Ok, IfOk, decimal};
 ghost use Rattle.containers.specs.Limits.{most_bytes, certificate_bytes};
 ghost use Rattle.report_lines.specs.Lines.{joined};
+ghost use Rattle.gt_core.specs.Task.{initial_state};
+ghost use Rattle.never_defs.specs.Sets.{AreTrue};
 ghost use Rattle.never_text.specs.Certificate.{certificate_of};
 ghost use Rattle.never_text.specs.Reading.{AreClauses};
 ghost use Rattle.plan_endings.specs.Ends.{OnlyMemory};
@@ -113,8 +115,39 @@ fn formula_told<H: Threads + Sync>(
     Ok(Ended::Plain(Ending::Listing(text)))
 }
 
-// What clauses and the proof of this name come to.
+// How a run ends where the clause with this number is false in the initial state.
+fn false_at_first(alloc: Global, number: usize) -> Result<Ended, Stop>
+    ensures ended { IfOk result (λ end. end ≡ ended_initial number) }
+    ensures memory { OnlyMemory result }
+{
+    let count = number as u64 + 1;
+    let end = shown(alloc, Finding::Rejected, b"; rejected initial ", count)?;
+    Ok(end)
+}
+
+// What clauses that are all true in the initial state and the proof of this name come to.
 fn proof_judged<H: Threads + Sync, T: Tape>(
+    rt: &H,
+    alloc: Global,
+    task: &Task,
+    clauses: &FlatLists<u32>,
+    proof: &str,
+    tape: &mut T,
+) -> Result<Ended, Stop>
+    requires clauses { AreClauses task.now.facts clauses.now }
+    requires first { AreTrue (initial_state task.now) clauses.now }
+    ensures ended { EndsWith (ProofJudged (tape_run (T.faults tape.old) (T.faults tape.new) (T.given tape.old) (T.given tape.new)) proof.now task.now clauses.now) result }
+    ensures later { T.faults tape.old ≤ T.faults tape.new }
+{
+    let formula = formula_of(rt, alloc, task, clauses)?;
+    open(tape, proof)?;
+    let verdict = verdict_on(alloc, &formula, tape)?;
+    let end = ended_verdict(alloc, clauses.len(), verdict)?;
+    Ok(end)
+}
+
+// What clauses and the proof of this name come to.
+fn clauses_judged<H: Threads + Sync, T: Tape>(
     rt: &H,
     alloc: Global,
     task: &Task,
@@ -128,20 +161,10 @@ fn proof_judged<H: Threads + Sync, T: Tape>(
 {
     // For the proof: the task is lawful.
     let _facts = task.facts();
-    if let Some(number) = first_false(task, clauses) {
-        let end = shown(
-            alloc,
-            Finding::Rejected,
-            b"; rejected initial ",
-            number as u64 + 1,
-        )?;
-        return Ok(end);
+    match first_false(task, clauses) {
+        Some(number) => false_at_first(alloc, number),
+        None => proof_judged(rt, alloc, task, clauses, proof, tape),
     }
-    let formula = formula_of(rt, alloc, task, clauses)?;
-    open(tape, proof)?;
-    let verdict = verdict_on(alloc, &formula, tape)?;
-    let end = ended_verdict(alloc, clauses.len(), verdict)?;
-    Ok(end)
 }
 
 // What the text of a certificate comes to where its formula is told.
@@ -177,7 +200,7 @@ fn proof_in<H: Threads + Sync, T: Tape>(
 {
     let reading = read(alloc, task.facts(), text)?;
     match &reading {
-        Reading::Forward(clauses) => proof_judged(rt, alloc, task, clauses, proof, tape),
+        Reading::Forward(clauses) => clauses_judged(rt, alloc, task, clauses, proof, tape),
         Reading::Faulty { at, .. } => faulty(alloc, *at),
         Reading::Backward(_) | Reading::Weights(_) => other_kind(alloc),
     }
