@@ -34,10 +34,10 @@ pub fn decide<H: Threads + Sync, S: Shelf, T: Tape>(
     ensures untouched { requested (map string_bytes words.now) ≡ None → shelf.new ≡ shelf.old }
     ensures told { S.told shelf.new ≡ S.told shelf.old }
     ensures lacks { S.lacks shelf.new ≡ S.lacks shelf.old }
+    ensures tape_faults { T.faults tape.old ≤ T.faults tape.new }
     ensures agrees { Agrees (S.told shelf.old) (S.lacks shelf.old) (S.heard shelf.old) (S.heard shelf.new) }
     ensures noted { NotesAmong (names_in (map string_bytes words.now)) (S.failed shelf.old) (S.failed shelf.new) }
     ensures never_falls { (name : List ℕ) → fault_count name (S.failed shelf.old) ≤ fault_count name (S.failed shelf.new) }
-    ensures tape_faults { T.faults tape.old ≤ T.faults tape.new }
 {
     match read_words(alloc, words)? {
         None => Ok(Ended::Usage),
