@@ -96,7 +96,8 @@ fn answer<H: Threads + Sync, T: Tape>(
     ensures untaken { ((domain problem certificate proof : List ℕ) → seen request.now ≢ refutes domain problem certificate proof) → tape.new ≡ tape.old }
     ensures tape_faults { T.faults tape.old ≤ T.faults tape.new }
 {
-    let (first, second) = (files.domain.as_slice(), files.problem.as_slice());
+    let first = files.domain.as_slice();
+    let second = files.problem.as_slice();
     match request {
         Request::Search {
             how,
