@@ -163,13 +163,13 @@ pub fn take_batch<S: Shelf>(
     ensures taken { IfOk result (λ files. (took : List Heard) × (S.heard shelf.new ≡ S.heard shelf.old ++ took) × AreTakenOrLong (file_in File.Problem) 0 (domain.now ∷ texts problems.now) took (files.domain ∷ files.problems.items)) }
     ensures stops { StopsBy (λ end. (took : List Heard) × (S.heard shelf.new ≡ S.heard shelf.old ++ took) × FaultsFrom (S.failed shelf.old) (S.failed shelf.new) (file_in File.Problem) 0 (domain.now ∷ texts problems.now) took end) result }
 {
-    let domain = Option::<Bytes>::take(alloc, File::Domain, domain, shelf)?;
+    let domain = <Option<Bytes> as Kept>::take(alloc, File::Domain, domain, shelf)?;
     let mut files = BatchFiles {
         domain,
         problems: Vec::new(alloc),
     };
     'taking: while let Some(name) = problems.get(files.problems.len()) {
-        let file = Option::<Bytes>::take(alloc, File::Problem, name, shelf)?;
+        let file = <Option<Bytes> as Kept>::take(alloc, File::Problem, name, shelf)?;
         files.problems.push(file)?;
     }
     Ok(files)

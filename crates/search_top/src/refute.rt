@@ -1,5 +1,5 @@
 //! What the bytes of a domain, a problem and a certificate come to where its formula is told, or a proof over that formula is judged.
-ghost use Rattle.std.specs.Prelude.{◌≡◌, ◌≤◌, ◌++◌, ◌∷◌, [], length, Some, Ok, IfOk, decimal};
+ghost use Rattle.std.specs.Prelude.{◌≡◌, ◌≤◌, ◌<◌, ◌++◌, ◌∷◌, [], length, Some, Ok, IfOk, decimal};
 ghost use Rattle.containers.specs.Limits.{most_bytes, certificate_bytes};
 ghost use Rattle.report_lines.specs.Lines.{joined};
 ghost use Rattle.gt_core.specs.Task.{initial_state};
@@ -117,6 +117,7 @@ fn formula_told<H: Threads + Sync>(
 
 // How a run ends where the clause with this number is false in the initial state.
 fn false_at_first(alloc: Global, number: usize) -> Result<Ended, Stop>
+    requires { number < certificate_bytes }
     ensures ended { IfOk result (λ end. end ≡ ended_initial number) }
     ensures memory { OnlyMemory result }
 {
