@@ -36,10 +36,10 @@ pub enum Open {
 pub fn answer_formula<H: Threads + Sync>(
     rt: &H,
     alloc: Global,
-    domain: &[u8],
-    problem: &[u8],
     horizon: u32,
     steps: Stepping,
+    domain: &[u8],
+    problem: &[u8],
 ) -> Result<Ended, Stop>
     requires domain_fits { length domain.now ≤ most_bytes }
     requires problem_fits { length problem.now ≤ most_bytes }
@@ -70,11 +70,11 @@ fn ended(horizon: u32, verdict: Verdict) -> Ended
 pub fn answer_open<H: Threads + Sync, T: Tape>(
     rt: &H,
     alloc: Global,
-    domain: &[u8],
-    problem: &[u8],
     horizon: u32,
     steps: Stepping,
     what: Open,
+    domain: &[u8],
+    problem: &[u8],
     tape: &mut T,
 ) -> Result<Ended, Stop>
     requires domain_fits { length domain.now ≤ most_bytes }

@@ -92,7 +92,7 @@ fn answer<H: Threads + Sync, T: Tape>(
             horizon,
             stepping,
             ..
-        } => { answer_formula(rt, alloc, first, second, *horizon, *stepping) }
+        } => { answer_formula(rt, alloc, *horizon, *stepping, first, second) }
         Request::Judge {
             horizon,
             proof,
@@ -103,11 +103,11 @@ fn answer<H: Threads + Sync, T: Tape>(
             answer_open(
                 rt,
                 alloc,
-                first,
-                second,
                 *horizon,
                 *stepping,
                 Open::Proof,
+                first,
+                second,
                 tape,
             )
         }
@@ -138,7 +138,7 @@ fn answer_opened<H: Threads + Sync, T: Tape>(
     ensures tape_faults { T.faults tape.old ≤ T.faults tape.new }
 {
     match tape.open(model) {
-        Ok(()) => answer_open(rt, alloc, first, second, horizon, steps, Open::Model, tape),
+        Ok(()) => answer_open(rt, alloc, horizon, steps, Open::Model, first, second, tape),
         Err(TakeError::Failed) => Ok(Ended::Unread),
         Err(TakeError::Memory) => Err(Stop::Memory),
     }
