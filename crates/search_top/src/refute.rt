@@ -147,27 +147,6 @@ fn proof_judged<H: Threads + Sync, T: Tape>(
     Ok(end)
 }
 
-// What clauses and the proof of this name come to.
-fn clauses_judged<H: Threads + Sync, T: Tape>(
-    rt: &H,
-    alloc: Global,
-    task: &Task,
-    clauses: &FlatLists<u32>,
-    proof: &str,
-    tape: &mut T,
-) -> Result<Ended, Stop>
-    requires { AreClauses task.now.facts clauses.now }
-    ensures ended { EndsWith (ProofJudged (tape_run (T.faults tape.old) (T.faults tape.new) (T.given tape.old) (T.given tape.new)) proof.now task.now clauses.now) result }
-    ensures later { T.faults tape.old ≤ T.faults tape.new }
-{
-    // For the proof: the task is lawful.
-    let _facts = task.facts();
-    match first_false(task, clauses) {
-        Some(number) => false_at_first(alloc, number),
-        None => proof_judged(rt, alloc, task, clauses, proof, tape),
-    }
-}
-
 // What the text of a certificate comes to where its formula is told.
 fn formula_in<H: Threads + Sync>(
     rt: &H,
@@ -201,7 +180,10 @@ fn proof_in<H: Threads + Sync, T: Tape>(
 {
     let reading = read(alloc, task.facts(), text)?;
     match &reading {
-        Reading::Forward(clauses) => clauses_judged(rt, alloc, task, clauses, proof, tape),
+        Reading::Forward(clauses) => match first_false(task, clauses) {
+            Some(number) => false_at_first(alloc, number),
+            None => proof_judged(rt, alloc, task, clauses, proof, tape),
+        },
         Reading::Faulty { at, .. } => faulty(alloc, *at),
         Reading::Backward(_) | Reading::Weights(_) => other_kind(alloc),
     }
