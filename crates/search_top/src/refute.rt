@@ -161,7 +161,8 @@ fn formula_in<H: Threads + Sync>(
     match &reading {
         Reading::Forward(clauses) => formula_told(rt, alloc, task, clauses),
         Reading::Faulty { at, .. } => faulty(alloc, *at),
-        Reading::Backward(_) | Reading::Weights(_) => other_kind(alloc),
+        Reading::Backward(_) => other_kind(alloc),
+        Reading::Weights(_) => other_kind(alloc),
     }
 }
 
@@ -185,7 +186,8 @@ fn proof_in<H: Threads + Sync, T: Tape>(
             None => proof_judged(rt, alloc, task, clauses, proof, tape),
         },
         Reading::Faulty { at, .. } => faulty(alloc, *at),
-        Reading::Backward(_) | Reading::Weights(_) => other_kind(alloc),
+        Reading::Backward(_) => other_kind(alloc),
+        Reading::Weights(_) => other_kind(alloc),
     }
 }
 
