@@ -12,11 +12,11 @@ returns-in_err-ready-clause-ended g c = files_handed _ _ _ _ _ c.from_residual.e
 
 pub returns-in_err-formula-in-Proof-clause-ended : goal.returns-in_err-formula-in-Proof-clause-ended
 returns-in_err-formula-in-Proof-clause-ended g c =
-    rw c.in-Proof.is (task_handed _ _ _ _ _ c.in_ok-ready.ensures.task c.in_ok-ready.ensures.ready (TellsTooMany (places_by c.args.steps) c.args.horizon c.in_ok-ready.ready.grounded.task) (λ end h. too_large end h refl) _ _ c.from_residual-in_err-formula.ensures.1 (rw c.task.ensures at c.in_err-formula-in-Proof.ensures.stops))
+    rw c.in-Proof.is (task_handed _ _ _ _ _ c.in_ok-ready.ensures.task c.in_ok-ready.ensures.ready (TellsTooMany (places_by c.args.steps) c.args.horizon c.in_ok-ready.ready.grounded.task) (λ end h. too_large end h refl) _ _ c.from_residual-in_err-formula-in-Proof.ensures.1 (rw c.task.ensures at c.in_err-formula-in-Proof.ensures.stops))
 
 pub returns-in_err-verdict-in-Proof-clause-ended : goal.returns-in_err-verdict-in-Proof-clause-ended
 returns-in_err-verdict-in-Proof-clause-ended g c =
-    rw c.in-Proof.is (task_handed _ _ _ _ _ c.in_ok-ready.ensures.task c.in_ok-ready.ensures.ready (IsUnread (g.T.Tape.faults c.args.tape.now) (g.T.Tape.faults c.verdict_on.new.tape)) (λ end h. unread end h refl) _ _ c.from_residual-in_err-verdict.ensures.1 c.in_err-verdict-in-Proof.ensures.stops)
+    rw c.in-Proof.is (task_handed _ _ _ _ _ c.in_ok-ready.ensures.task c.in_ok-ready.ensures.ready (IsUnread (g.T.Tape.faults c.args.tape.now) (g.T.Tape.faults c.verdict_on.new.tape)) (λ end h. unread end h refl) _ _ c.from_residual-in_err-verdict-in-Proof.ensures.1 c.in_err-verdict-in-Proof.ensures.stops)
 
 pub returns-in_ok-verdict-in-Proof-clause-ended : goal.returns-in_ok-verdict-in-Proof-clause-ended
 returns-in_ok-verdict-in-Proof-clause-ended g c =
@@ -29,7 +29,7 @@ returns-in_ok-verdict-in-Proof-clause-ended g c =
 
 pub returns-in_err-told-in-Model-clause-ended : goal.returns-in_err-told-in-Model-clause-ended
 returns-in_err-told-in-Model-clause-ended g c =
-    rw c.in-Model.is (task_handed _ _ _ _ _ c.in_ok-ready.ensures.task c.in_ok-ready.ensures.ready (TellsTooMany (places_by c.args.steps) c.args.horizon c.in_ok-ready.ready.grounded.task) (λ end h. too_large end h refl) _ _ c.from_residual-in_err-told.ensures.1 (rw c.task.ensures at c.in_err-told-in-Model.ensures.stops))
+    rw c.in-Model.is (task_handed _ _ _ _ _ c.in_ok-ready.ensures.task c.in_ok-ready.ensures.ready (TellsTooMany (places_by c.args.steps) c.args.horizon c.in_ok-ready.ready.grounded.task) (λ end h. too_large end h refl) _ _ c.from_residual-in_err-told-in-Model.ensures.1 (rw c.task.ensures at c.in_err-told-in-Model.ensures.stops))
 
 pub ended_told-requires : goal.ended_told-requires
 ended_told-requires g c =
@@ -38,7 +38,7 @@ ended_told-requires g c =
 
 pub returns-in_err-end-in-Model-clause-ended : goal.returns-in_err-end-in-Model-clause-ended
 returns-in_err-end-in-Model-clause-ended g c =
-    handed _ _ (λ end h. absurd h) c.in_err-end-in-Model.field-0.0 c.from_residual-in_err-end.result c.from_residual-in_err-end.ensures.1 c.in_err-end-in-Model.ensures.memory
+    handed _ _ (λ end h. absurd h) c.in_err-end-in-Model.field-0.0 c.from_residual-in_err-end-in-Model.result c.from_residual-in_err-end-in-Model.ensures.1 c.in_err-end-in-Model.ensures.memory
 
 pub returns-in_ok-end-in-Model-clause-ended : goal.returns-in_ok-end-in-Model-clause-ended
 returns-in_ok-end-in-Model-clause-ended g c =

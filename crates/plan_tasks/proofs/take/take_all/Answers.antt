@@ -33,9 +33,7 @@ returns-in_err-problem-clause-stops g c =
 
 pub returns-in_err-third-clause-noted : goal.returns-in_err-third-clause-noted
 returns-in_err-third-clause-noted g c =
-    let k = c.in_ok-domain.ensures.kept in
-    let l = c.in_ok-problem.ensures.kept in
-    let so = two_whole c.args.third (names_of c.args.names) (g.S.Shelf.failed c.args.shelf.now) (g.S.Shelf.failed c.read.new.shelf) (g.S.Shelf.failed c.read-2.new.shelf) c.args.names.domain.now c.args.names.problem.now refl refl c.in_ok-domain.ensures.notes c.in_ok-problem.ensures.notes k.0 l.0 c.in_ok-domain.domain c.in_ok-problem.problem k.2 l.2 in
+    let so = two_whole c.args.third (names_of c.args.names) (g.S.Shelf.failed c.args.shelf.now) (g.S.Shelf.failed c.read.new.shelf) (g.S.Shelf.failed c.read-2.new.shelf) c.args.names.domain.now c.args.names.problem.now refl refl c.in_ok-domain.ensures.notes c.in_ok-problem.ensures.notes c.in_ok-domain.ensures.kept.0 c.in_ok-problem.ensures.kept.0 c.in_ok-domain.domain c.in_ok-problem.problem c.in_ok-domain.ensures.kept.2 c.in_ok-problem.ensures.kept.2 in
     let more = c.in_err-third.ensures.notes in
     noted_then (names_of c.args.names) (g.S.Shelf.failed c.args.shelf.now) (g.S.Shelf.failed c.read-2.new.shelf) (g.S.Shelf.failed c.take_third.new.shelf) 2 so.noted more.0 more.1 more.2
 
@@ -59,14 +57,6 @@ returns-in_err-third-clause-stops g c =
     c.in_err-third.field-0.0 c.from_residual-in_err-third.result c.from_residual-in_err-third.ensures.1
     (c.in_err-third.ensures.ends (g.S.Shelf.failed c.args.shelf.now) (rises_so _ _ (file_in c.args.third) _ _ _ _ _ so))
 
-pub returns-clause-noted : goal.returns-clause-noted
-returns-clause-noted g c =
-    let k = c.in_ok-domain.ensures.kept in
-    let l = c.in_ok-problem.ensures.kept in
-    let so = two_whole c.args.third (names_of c.args.names) (g.S.Shelf.failed c.args.shelf.now) (g.S.Shelf.failed c.read.new.shelf) (g.S.Shelf.failed c.read-2.new.shelf) c.args.names.domain.now c.args.names.problem.now refl refl c.in_ok-domain.ensures.notes c.in_ok-problem.ensures.notes k.0 l.0 c.in_ok-domain.domain c.in_ok-problem.problem k.2 l.2 in
-    let more = c.in_ok-third.ensures.notes in
-    noted_then (names_of c.args.names) (g.S.Shelf.failed c.args.shelf.now) (g.S.Shelf.failed c.read-2.new.shelf) (g.S.Shelf.failed c.take_third.new.shelf) 2 so.noted more.0 more.1 more.2
-
 pub returns-clause-agrees : goal.returns-clause-agrees
 returns-clause-agrees g c =
     agrees_three _ _ (g.S.Shelf.heard c.args.shelf.now) (g.S.Shelf.heard c.read.new.shelf) (g.S.Shelf.heard c.read-2.new.shelf) (g.S.Shelf.heard c.take_third.new.shelf) c.in_ok-domain.ensures.agrees
@@ -80,3 +70,9 @@ returns-clause-taken g c =
     let so = two_whole c.args.third (names_of c.args.names) (g.S.Shelf.failed c.args.shelf.now) (g.S.Shelf.failed c.read.new.shelf) (g.S.Shelf.failed c.read-2.new.shelf) c.args.names.domain.now c.args.names.problem.now refl refl c.in_ok-domain.ensures.notes c.in_ok-problem.ensures.notes k.0 l.0 c.in_ok-domain.domain c.in_ok-problem.problem k.2 l.2 in
     let m = c.in_ok-third.ensures.kept in
     (k.0 ∷ l.0 ∷ m.0, more_heard (g.S.Shelf.heard c.args.shelf.now) (g.S.Shelf.heard c.read-2.new.shelf) (g.S.Shelf.heard c.take_third.new.shelf) (k.0 ∷ l.0 ∷ []) m.0 (more_heard (g.S.Shelf.heard c.args.shelf.now) (g.S.Shelf.heard c.read.new.shelf) (g.S.Shelf.heard c.read-2.new.shelf) (k.0 ∷ []) (l.0 ∷ []) k.1 l.1) m.1, so.taken m.0 (third_bytes c.in_ok-third.third) m.2)
+
+pub returns-clause-noted : goal.returns-clause-noted
+returns-clause-noted g c =
+    let so = two_whole c.args.third (names_of c.args.names) (g.S.Shelf.failed c.args.shelf.now) (g.S.Shelf.failed c.read.new.shelf) (g.S.Shelf.failed c.read-2.new.shelf) c.args.names.domain.now c.args.names.problem.now refl refl c.in_ok-domain.ensures.notes c.in_ok-problem.ensures.notes c.in_ok-domain.ensures.kept.0 c.in_ok-problem.ensures.kept.0 c.in_ok-domain.domain c.in_ok-problem.problem c.in_ok-domain.ensures.kept.2 c.in_ok-problem.ensures.kept.2 in
+    let more = c.in_ok-third.ensures.notes in
+    noted_then (names_of c.args.names) (g.S.Shelf.failed c.args.shelf.now) (g.S.Shelf.failed c.read-2.new.shelf) (g.S.Shelf.failed c.take_third.new.shelf) 2 so.noted more.0 more.1 more.2
