@@ -11,7 +11,7 @@ use Rattle.requests.proofs.published.Ranges.{number_in}
 use Rattle.search_top.specs.declared.command.Name.{Name}
 use Rattle.search_top.specs.declared.command.Name.TheVariants.{Search, Never, NeverSearch, System, NeverFormula, NeverJudge}
 use Rattle.search_top.specs.Command.{command_of, simple_command, how_words, format_words, list_words, Has}
-use Rattle.search_top.specs.Limits.{most_states, most_memory, most_obligations}
+use Rattle.search_top.specs.Limits.{most_count, most_memory}
 
 pub fit : (name : Name) (by : ValueParser) → TakesWords (list_words name) by → IsFit (command_of by name)
 fit Search by takes = let e = one_passes how_words by (codes "greedy") takes refl in record { simple = refl; leaf = refl; defaults = rw e refl; values = refl }
@@ -24,12 +24,12 @@ fit NeverJudge by takes = record { simple = refl; leaf = refl; defaults = refl; 
 pub numbers_of : (by : ValueParser) (name : Name) (rows : List Row) → Passed (command_of by name).top.rules rows → Has name rows
 numbers_of by Search rows passed =
     let each = number_in (command_of by Search).top.rules rows passed in
-    (each (codes "states") _ 1 most_states refl refl, each (codes "memory") _ 1 most_memory refl refl)
+    (each (codes "states") _ 1 most_count refl refl, each (codes "memory") _ 1 most_memory refl refl)
 numbers_of by Never rows passed = tt
 numbers_of by System rows passed = tt
 numbers_of by NeverFormula rows passed = tt
 numbers_of by NeverJudge rows passed = tt
-numbers_of by NeverSearch rows passed = number_in (command_of by NeverSearch).top.rules rows passed (codes "budget") _ 1 most_obligations refl refl
+numbers_of by NeverSearch rows passed = number_in (command_of by NeverSearch).top.rules rows passed (codes "budget") _ 1 most_count refl refl
 
 -- any reader of the list of a command makes the same command, but for where the list lies
 pub as_list : (name : Name) (by : ValueParser) → TakesWords (list_words name) by → IsSame (command_of by name) (simple_command name)

@@ -6,7 +6,7 @@ use Rattle.clap.specs.Simple.{App, new_app}
 use Rattle.clap.specs.declared.builder.value_parser.ValueParser.{ValueParser}
 use Rattle.requests.specs.Arguments.{word, many_words, option, number, one_among, with_rules}
 use Rattle.requests.specs.Passed.{HasNumber}
-use Rattle.search_top.specs.Limits.{most_states, most_memory, most_obligations}
+use Rattle.search_top.specs.Limits.{most_count, most_memory}
 use Rattle.search_top.specs.declared.command.Name.{Name}
 use Rattle.search_top.specs.declared.command.Name.TheVariants.{Search, Never, NeverSearch, System, NeverFormula, NeverJudge}
 
@@ -40,9 +40,9 @@ word_of NeverJudge = codes "never-judge"
 abbrev pub rules_of : ValueParser → Name → List Rule
 rules_of by Search =
     word (codes "domain") ∷ word (codes "problem") ∷ option (codes "how") by (codes "greedy")
-    ∷ number (codes "states") 1 most_states (codes "4294967295") ∷ number (codes "memory") 1 most_memory (codes "1024") ∷ []
+    ∷ number (codes "states") 1 most_count (codes "4294967295") ∷ number (codes "memory") 1 most_memory (codes "1024") ∷ []
 rules_of by Never = word (codes "domain") ∷ many_words (codes "problem") ∷ []
-rules_of by NeverSearch = word (codes "domain") ∷ word (codes "problem") ∷ number (codes "budget") 1 most_obligations (codes "1000000") ∷ []
+rules_of by NeverSearch = word (codes "domain") ∷ word (codes "problem") ∷ number (codes "budget") 1 most_count (codes "1000000") ∷ []
 rules_of by System = word (codes "domain") ∷ word (codes "problem") ∷ option (codes "format") by (codes "blif") ∷ []
 rules_of by NeverFormula = word (codes "domain") ∷ word (codes "problem") ∷ word (codes "certificate") ∷ []
 rules_of by NeverJudge = word (codes "domain") ∷ word (codes "problem") ∷ word (codes "certificate") ∷ word (codes "proof") ∷ []
@@ -67,9 +67,9 @@ named text = if bytes_eq text (codes "search") then Some Search
 
 -- The numbers in a command's matches are in their ranges.
 abbrev pub Has : Name → List Row → Type 0
-Has Search rows = HasNumber 1 most_states (codes "states") rows × HasNumber 1 most_memory (codes "memory") rows
+Has Search rows = HasNumber 1 most_count (codes "states") rows × HasNumber 1 most_memory (codes "memory") rows
 Has Never rows = Unit {0}
-Has NeverSearch rows = HasNumber 1 most_obligations (codes "budget") rows
+Has NeverSearch rows = HasNumber 1 most_count (codes "budget") rows
 Has System rows = Unit {0}
 Has NeverFormula rows = Unit {0}
 Has NeverJudge rows = Unit {0}

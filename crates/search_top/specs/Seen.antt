@@ -3,7 +3,7 @@ use Rattle.std.specs.Prelude.{ℕ, ◌≤◌, List, [], ◌∷◌, Option, Some,
 use Rattle.std.specs.Str.{bytes_eq}
 use Rattle.clap.specs.Walk.{Text, Row}
 use Rattle.requests.specs.Passed.{text_at, texts_at, number_at}
-use Rattle.search_top.specs.Limits.{most_states, most_memory}
+use Rattle.search_top.specs.Limits.{most_count, most_memory}
 use Rattle.search_top.specs.declared.command.Name.{Name}
 use Rattle.search_top.specs.declared.command.Name.TheVariants as name
 use Rattle.search_top.specs.declared.request.How.{How}
@@ -68,5 +68,5 @@ names_of (refutes d p c l) = d ∷ p ∷ c ∷ []
 
 -- The numbers of a request are in their ranges.
 abbrev pub IsSized : Seen → Type 0
-IsSized (searches d p how states memory) = ((1 ≤ states) × (states ≤ most_states)) × ((1 ≤ memory) × (memory ≤ most_memory))
+IsSized (searches d p how states memory) = ((1 ≤ states) × (states ≤ most_count)) × ((1 ≤ memory) × (memory ≤ most_memory))
 IsSized _ = Unit {0}

@@ -4,18 +4,16 @@ ghost use Rattle.clap.specs.Words.{app_of};
 ghost use Rattle.requests.specs.Arguments.{TakesWords};
 ghost use Rattle.search_top.specs.Command.{command_of, named, list_words};
 
-use crate::limits::{MOST_MEMORY, MOST_OBLIGATIONS, MOST_STATES};
+use crate::limits::{MOST_COUNT, MOST_MEMORY};
 use clap::Command;
 use clap::builder::ValueParser;
 use requests::{Argument, with_all};
 use std::alloc::{AllocError, Global};
 
 // The greatest numbers, in the type of a command line's numbers.
-const GREATEST_STATES: i64 = MOST_STATES as i64;
+const GREATEST_COUNT: i64 = MOST_COUNT as i64;
 
 const GREATEST_MEMORY: i64 = MOST_MEMORY as i64;
-
-const GREATEST_BUDGET: i64 = MOST_OBLIGATIONS as i64;
 
 /// The commands, by the word that names each.
 #[derive(Clone, Copy)]
@@ -75,7 +73,7 @@ pub(crate) fn command_by<'a>(
                 Argument::Long("how", by, "greedy"),
                 Argument::Long(
                     "states",
-                    ValueParser::Signed(1, GREATEST_STATES),
+                    ValueParser::Signed(1, GREATEST_COUNT),
                     "4294967295",
                 ),
                 Argument::Long("memory", ValueParser::Signed(1, GREATEST_MEMORY), "1024"),
@@ -120,7 +118,7 @@ pub(crate) fn command_by<'a>(
             &[
                 Argument::Word("domain"),
                 Argument::Word("problem"),
-                Argument::Long("budget", ValueParser::Signed(1, GREATEST_BUDGET), "1000000"),
+                Argument::Long("budget", ValueParser::Signed(1, GREATEST_COUNT), "1000000"),
             ],
         ),
     }

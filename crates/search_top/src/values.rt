@@ -6,7 +6,7 @@ ghost use Rattle.search_top.specs.Command.{Has};
 ghost use Rattle.search_top.specs.Seen.{seen, seen_in, how_of, format_of, IsSized};
 
 use crate::command::Name;
-use crate::limits::{MOST_MEMORY, MOST_OBLIGATIONS, MOST_STATES};
+use crate::limits::{MOST_COUNT, MOST_MEMORY};
 use crate::request::{Format, How, Request};
 use clap::ArgMatches;
 use requests::{number, text, texts};
@@ -42,7 +42,7 @@ pub(crate) fn request_in<'a>(name: Name, matches: &ArgMatches<'a>) -> Option<Req
             domain: text(matches, "domain"),
             problem: text(matches, "problem"),
             how: how_in(matches),
-            states: number(matches, "states", 1, MOST_STATES),
+            states: number(matches, "states", 1, MOST_COUNT),
             memory: number(matches, "memory", 1, MOST_MEMORY),
         }),
         Name::Never => never_in(matches),
@@ -65,7 +65,7 @@ pub(crate) fn request_in<'a>(name: Name, matches: &ArgMatches<'a>) -> Option<Req
         Name::NeverSearch => Some(Request::NeverSearch {
             domain: text(matches, "domain"),
             problem: text(matches, "problem"),
-            budget: number(matches, "budget", 1, MOST_OBLIGATIONS),
+            budget: number(matches, "budget", 1, MOST_COUNT),
         }),
     }
 }
