@@ -1,2 +1,1 @@
-pub mod Aiger
 pub mod Blif

@@ -6,7 +6,6 @@
 #![tactic(auto)]
 
 mod acts;
-pub mod aiger;
 pub mod blif;
 mod facts;
 mod names;
