@@ -86,12 +86,13 @@ walk_low (ends.Plan actions) = omega arith
 walk_low ends.NoPlan = omega arith
 walk_low ends.Unfinished = omega arith
 
-finding_low : (finding : Finding) → status_of_finding finding ≤ 3
+finding_low : (finding : Finding) → status_of_finding finding ≤ 4
 finding_low findings.NoPlan = omega arith
 finding_low findings.Rejected = omega arith
 finding_low findings.Open = omega arith
 finding_low findings.Planned = omega arith
 finding_low findings.Refused = omega arith
+finding_low findings.Past = omega arith
 
 search_low : (how : How) (n m : ℕ) (task : Parts) (g : Grounded) (end : Ended) → AnswersSearch how n m task g end → status_of end ≤ 4
 search_low how n m task g end a = let low = walk_low a.answer.end in let at = ap status_of a.told in omega (arith, low, at)
@@ -303,6 +304,7 @@ finding_none findings.Rejected zero = absurd (omega (arith, zero))
 finding_none findings.Planned zero = absurd (omega (arith, zero))
 finding_none findings.Open zero = absurd (omega (arith, zero))
 finding_none findings.Refused zero = absurd (omega (arith, zero))
+finding_none findings.Past zero = absurd (omega (arith, zero))
 
 -- what is said of a certificate is never that there is a plan
 said_rejected : (said : Judgement) → status_of_finding (finding_of said) ≡ 1 → finding_of said ≡ findings.Rejected
