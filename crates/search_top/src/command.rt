@@ -63,63 +63,32 @@ pub(crate) fn command_by<'a>(
 ) -> Result<Command<'a>, AllocError>
     ensures { IfOk result (λ c. app_of c ≡ command_of by.entry name) }
 {
+    let domain = Argument::Word("domain");
+    let problem = Argument::Word("problem");
+    let certificate = Argument::Word("certificate");
     match name {
-        Name::Search => with_all(
-            alloc,
-            "search",
-            &[
-                Argument::Word("domain"),
-                Argument::Word("problem"),
-                Argument::Long("how", by, "greedy"),
-                Argument::Long(
-                    "states",
-                    ValueParser::Signed(1, GREATEST_COUNT),
-                    "4294967295",
-                ),
-                Argument::Long("memory", ValueParser::Signed(1, GREATEST_MEMORY), "1024"),
-            ],
-        ),
-        Name::Never => with_all(
-            alloc,
-            "never",
-            &[Argument::Word("domain"), Argument::Words("problem")],
-        ),
-        Name::System => with_all(
-            alloc,
-            "system",
-            &[
-                Argument::Word("domain"),
-                Argument::Word("problem"),
-                Argument::Long("format", by, "blif"),
-            ],
-        ),
-        Name::NeverFormula => with_all(
-            alloc,
-            "never-formula",
-            &[
-                Argument::Word("domain"),
-                Argument::Word("problem"),
-                Argument::Word("certificate"),
-            ],
-        ),
-        Name::NeverJudge => with_all(
-            alloc,
-            "never-judge",
-            &[
-                Argument::Word("domain"),
-                Argument::Word("problem"),
-                Argument::Word("certificate"),
-                Argument::Word("proof"),
-            ],
-        ),
-        Name::NeverSearch => with_all(
-            alloc,
-            "never-search",
-            &[
-                Argument::Word("domain"),
-                Argument::Word("problem"),
-                Argument::Long("budget", ValueParser::Signed(1, GREATEST_COUNT), "1000000"),
-            ],
-        ),
+        Name::Search => {
+            let how = Argument::Long("how", by, "greedy");
+            let states = ValueParser::Signed(1, GREATEST_COUNT);
+            let states = Argument::Long("states", states, "4294967295");
+            let memory = ValueParser::Signed(1, GREATEST_MEMORY);
+            let memory = Argument::Long("memory", memory, "1024");
+            with_all(alloc, "search", &[domain, problem, how, states, memory])
+        }
+        Name::Never => with_all(alloc, "never", &[domain, Argument::Words("problem")]),
+        Name::NeverSearch => {
+            let budget = ValueParser::Signed(1, GREATEST_COUNT);
+            let budget = Argument::Long("budget", budget, "1000000");
+            with_all(alloc, "never-search", &[domain, problem, budget])
+        }
+        Name::System => {
+            let format = Argument::Long("format", by, "blif");
+            with_all(alloc, "system", &[domain, problem, format])
+        }
+        Name::NeverFormula => with_all(alloc, "never-formula", &[domain, problem, certificate]),
+        Name::NeverJudge => {
+            let proof = Argument::Word("proof");
+            with_all(alloc, "never-judge", &[domain, problem, certificate, proof])
+        }
     }
 }
