@@ -32,30 +32,55 @@ fn tells<H: Threads + Sync + AllocGlobal + Abort>(
     holds(rt, status == due && is_same(sink.taken(), text), text);
 }
 
+// The same into a sink that fails at no call.
+fn tells_all<H: Threads + Sync + AllocGlobal + Abort>(
+    rt: &H,
+    alloc: Global,
+    words: &str,
+    call: u32,
+    place: Option<usize>,
+    due: u8,
+    text: &str,
+) {
+    let mut sink = ample_sink(rt, alloc);
+    tells(rt, alloc, words, call, place, &mut sink, due, text);
+}
+
 // Each file is taken once, and no other: a call more would fail. A call that fails is told by the file that it was to take.
 #[test]
 fn walk_on_a_shelf_that_fails(rt: HostRuntime) {
-    let alloc = rt.alloc();
-    let cases = [
-        ("never d p", 3, None, 2, "; open\n"),
-        ("never d p", 1, None, 5, "; read fault domain\n"),
-        ("never d p", 2, None, 5, "; read fault problem\n"),
-        ("never d p c", 3, None, 5, "; read fault proof\n"),
-        (
-            "never-search d p",
-            3,
-            None,
-            1,
-            "; plan of 1 actions\n(flip)\n",
-        ),
-        ("never-judge d p c l", 4, None, 1, "; rejected line 1\n"),
-        ("never-judge d p c l", 4, Some(0), 5, "; read fault proof\n"),
-        ("never-judge d p c l", 4, Some(4), 5, "; read fault proof\n"),
-    ];
-    for (words, call, place, due, text) in cases {
-        let mut sink = ample_sink(&rt, alloc);
-        tells(&rt, alloc, words, call, place, &mut sink, due, text);
-    }
+    let (alloc, met) = (rt.alloc(), "; plan of 1 actions\n(flip)\n");
+    tells_all(&rt, alloc, "never d p", 3, None, 2, "; open\n");
+    tells_all(&rt, alloc, "never d p", 1, None, 5, "; read fault domain\n");
+    tells_all(
+        &rt,
+        alloc,
+        "never d p",
+        2,
+        None,
+        5,
+        "; read fault problem\n",
+    );
+    tells_all(
+        &rt,
+        alloc,
+        "never d p c",
+        3,
+        None,
+        5,
+        "; read fault proof\n",
+    );
+    tells_all(&rt, alloc, "never-search d p", 3, None, 1, met);
+}
+
+// So does the tape, at the front of a proof and in the middle of a line.
+#[test]
+fn walk_on_a_tape_that_fails(rt: HostRuntime) {
+    let (alloc, words) = (rt.alloc(), "never-judge d p c l");
+    let unread = "; read fault proof\n";
+    tells_all(&rt, alloc, words, 4, None, 1, "; rejected line 1\n");
+    tells_all(&rt, alloc, words, 4, Some(0), 5, unread);
+    tells_all(&rt, alloc, words, 4, Some(4), 5, unread);
 }
 
 // The sink takes three bytes a call, and its second call fails: three bytes are there.
