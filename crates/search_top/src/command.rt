@@ -51,7 +51,8 @@ pub(crate) fn list_reader(name: Name) -> ValueParser<'static>
 {
     match name {
         Name::System => ValueParser::Names(FORMATS.as_slice()),
-        _ => ValueParser::Names(HOW.as_slice()),
+        Name::Search | Name::Never | Name::NeverSearch => ValueParser::Names(HOW.as_slice()),
+        Name::NeverFormula | Name::NeverJudge => ValueParser::Names(HOW.as_slice()),
     }
 }
 
