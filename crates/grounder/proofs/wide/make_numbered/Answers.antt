@@ -5,12 +5,13 @@ use Rattle.grounding_defs.specs.Found.{may_be_true, actions_of, grounded_by}
 use Rattle.grounding_defs.specs.Simplify.{task_of}
 use Rattle.grounding_defs.specs.Tuples.{saturated}
 use Rattle.gt_core.specs.Lawful.{conditional_in}
+use Rattle.gt_core.specs.Limits.{wide_limits}
+use Rattle.gt_core.proofs.published.Within.{within_wider}
 use Rattle.grounder.specs.own.Few.{HaveFew}
 use Rattle.grounder.proofs.Few.{kept_few, left_few}
 use Rattle.grounder.proofs.Saturated.{few_saturated, many_saturated}
 use Rattle.grounder.proofs.Assembled.{found_is, found_sorted, with_task, few_actions}
-use Rattle.grounder.proofs.grounded.make_numbered.Goals as goal
-use Rattle.gt_core.specs.Limits.{most_conditional}
+use Rattle.grounder.proofs.wide.make_numbered.Goals as goal
 
 pub known_of-requires-clause-sorted : goal.known_of-requires-clause-sorted
 known_of-requires-clause-sorted c = found_sorted c.laws.ensures.least_is_grounded c.args.domains.now c.args.facts.now c.args.kept c.requires.found
@@ -20,7 +21,9 @@ acts_of-requires-clause-few c =
     let of_task = c.in_ok-known.ensures.domains in
     let p = c.args.domains.now in
     let kept = c.args.kept in
-    let few = kept_few p kept c.requires.tuples (λ d h. (c.requires.found.least.calls d).0 h) in
+    let most = c.requires.bounds.tuples in
+    let tuples = c.requires.tuples in
+    let few = kept_few p kept (omega (arith, tuples, most)) (λ d h. (c.requires.found.least.calls d).0 h) in
     rw of_task (subst (HaveFew p) (sym (c.as_slice.ensures ∙ rw of_task at c.in_ok-calls.ensures)) (left_few p (λ d. list_all (may_be_true p c.in_ok-known.known.facts) (instance_of p d).precondition) kept few))
 
 pub task_of-requires-clause-task : goal.task_of-requires-clause-task
@@ -28,19 +31,19 @@ task_of-requires-clause-task c =
     let of_task = c.in_ok-known.ensures.domains in
     let is = found_is c.laws.ensures.least_is_grounded c.args.domains.now c.in_ok-known.known.domains.now c.args.facts.now c.in_ok-known.known.facts c.args.kept c.in_ok-calls.calls of_task c.in_ok-known.ensures.facts c.requires.found c.in_ok-calls.ensures in
     let count : c.in_ok-counted.counted.conditional ≡ saturated (conditional_in (task_of c.args.domains.now c.in_ok-known.known.facts c.in_ok-calls.calls).actions) = rw (c.as_slice.ensures, of_task) at c.in_ok-counted.ensures.count in
-    rw (of_task, c.as_slice-2.ensures) (c.laws.ensures.grounded_is_task c.args.domains.now (grounded_by c.args.domains.now c.in_ok-known.known.facts c.in_ok-calls.calls) is (record {
+    rw (of_task, c.as_slice-2.ensures) (within_wider c.args.bounds.now.task wide_limits _ c.requires.bounds.facts c.requires.bounds.actions c.requires.bounds.conditional (c.laws.ensures.grounded_is_within c.args.bounds.now c.args.domains.now (grounded_by c.args.domains.now c.in_ok-known.known.facts c.in_ok-calls.calls) is (record {
       tuples = c.requires.tuples;
       facts = omega (arith, c.requires.facts, ap length c.in_ok-known.ensures.facts);
-      actions = few_actions c.in_ok-known.known.domains.now c.in_ok-known.known.facts c.args.kept c.in_ok-calls.calls c.in_ok-calls.ensures (omega (arith, c.count_actions-count.ensures));
-      effects = few_saturated most_conditional _ _ (omega arith) count c.if-count-gt-MOST_CONDITIONAL.false;
-    }))
+      actions = few_actions c.args.bounds.now.task.actions c.in_ok-known.known.domains.now c.in_ok-known.known.facts c.args.kept c.in_ok-calls.calls c.in_ok-calls.ensures (omega (arith, c.count_actions-count.ensures));
+      effects = few_saturated c.args.bounds.now.task.conditional _ _ (let most = c.requires.bounds.conditional in omega (arith, most)) count c.if-count-gt-most.false;
+    })))
 
 pub task_of-requires-clause-acts : goal.task_of-requires-clause-acts
 task_of-requires-clause-acts c =
-    rw c.as_slice-2.ensures (c.of.ensures ∙ rw c.as_slice.ensures at c.in_ok-counted.ensures.acts_are (omega (arith, c.if-count-gt-MOST_CONDITIONAL.false)))
+    rw c.as_slice-2.ensures (c.of.ensures ∙ rw c.as_slice.ensures at c.in_ok-counted.ensures.acts_are (omega (arith, c.if-count-gt-most.false)))
 
-pub returns-then-count-gt-MOST_CONDITIONAL-clause-effects : goal.returns-then-count-gt-MOST_CONDITIONAL-clause-effects
-returns-then-count-gt-MOST_CONDITIONAL-clause-effects c =
+pub returns-then-count-gt-most-clause-effects : goal.returns-then-count-gt-most-clause-effects
+returns-then-count-gt-most-clause-effects c =
     let of_task = c.in_ok-known.ensures.domains in
     let is = found_is c.laws.ensures.least_is_grounded c.args.domains.now c.in_ok-known.known.domains.now c.args.facts.now c.in_ok-known.known.facts c.args.kept c.in_ok-calls.calls of_task c.in_ok-known.ensures.facts c.requires.found c.in_ok-calls.ensures in
     let count : c.in_ok-counted.counted.conditional ≡ saturated (conditional_in (task_of c.args.domains.now c.in_ok-known.known.facts c.in_ok-calls.calls).actions) = rw (c.as_slice.ensures, of_task) at c.in_ok-counted.ensures.count in
@@ -49,8 +52,8 @@ returns-then-count-gt-MOST_CONDITIONAL-clause-effects c =
       is = is;
       tuples = c.requires.tuples;
       facts = omega (arith, c.requires.facts, ap length c.in_ok-known.ensures.facts);
-      actions = few_actions c.in_ok-known.known.domains.now c.in_ok-known.known.facts c.args.kept c.in_ok-calls.calls c.in_ok-calls.ensures (omega (arith, c.count_actions-count.ensures));
-      over = many_saturated most_conditional _ _ count c.if-count-gt-MOST_CONDITIONAL.true;
+      actions = few_actions c.args.bounds.now.task.actions c.in_ok-known.known.domains.now c.in_ok-known.known.facts c.args.kept c.in_ok-calls.calls c.in_ok-calls.ensures (omega (arith, c.count_actions-count.ensures));
+      over = many_saturated c.args.bounds.now.task.conditional _ _ count c.if-count-gt-most.true;
       count_is = (let same : n ≡ c.in_ok-counted.counted.conditional = cc in same ∙ count);
     }
 
@@ -60,8 +63,8 @@ returns-clause-grounded c =
     let is = found_is c.laws.ensures.least_is_grounded c.args.domains.now c.in_ok-known.known.domains.now c.args.facts.now c.in_ok-known.known.facts c.args.kept c.in_ok-calls.calls of_task c.in_ok-known.ensures.facts c.requires.found c.in_ok-calls.ensures in
     rw c.in_ok-known.ensures.facts at (with_task c.args.domains.now c.in_ok-known.known.facts c.in_ok-calls.calls c.in_ok-task.task is (rw (of_task, c.as_slice-2.ensures) at c.in_ok-task.ensures))
 
-pub returns-then-count-gt-MOST_ACTIONS-clause-actions : goal.returns-then-count-gt-MOST_ACTIONS-clause-actions
-returns-then-count-gt-MOST_ACTIONS-clause-actions c =
+pub returns-then-count-gt-actions-clause-actions : goal.returns-then-count-gt-actions-clause-actions
+returns-then-count-gt-actions-clause-actions c =
     let of_task = c.in_ok-known.ensures.domains in
     let calls = actions_of c.in_ok-known.known.domains.now c.in_ok-known.known.facts c.args.kept in
     λ n e. record {

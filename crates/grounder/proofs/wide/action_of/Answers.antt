@@ -1,7 +1,7 @@
 use Rattle.std.proofs.Common.{◌∙◌, length, refl}
 use Rattle.std.proofs.lemmas.Option.{slice_get_read}
 use Rattle.grounder.proofs.Put.{action_is}
-use Rattle.grounder.proofs.grounded.action_of.Goals as goal
+use Rattle.grounder.proofs.wide.action_of.Goals as goal
 
 pub returns : goal.returns
 returns c =
