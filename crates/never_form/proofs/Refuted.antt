@@ -73,9 +73,9 @@ still_satisfied v n (c ∷ cs) below s = (same_clause v n c below.0 ∙ s.0, sti
 
 -- without facts no clause is true
 no_clauses : (s : ℕ → Bool) (clauses : List (List ℕ)) → AreOver 0 clauses → AreTrue s clauses → clauses ≡ []
-no_clauses s [] over true = refl
-no_clauses s ([] ∷ cs) over true = absurd (let never : false ≡ true = true.0 in cc)
-no_clauses s ((l ∷ c) ∷ cs) over true = absurd (let lt = over.0.0 in omega arith)
+no_clauses s [] over h = refl
+no_clauses s ([] ∷ cs) over h = absurd (let never : false ≡ true = h.0 in cc)
+no_clauses s ((l ∷ c) ∷ cs) over h = absurd (let lt = over.0.0 in omega arith)
 
 -- and no goal has a literal
 no_goal : (goal : List ℕ) → AllByRecursion (λ l. l / 2 < 0) goal → goal ≡ []
@@ -110,14 +110,14 @@ module _ (task : Task) (pairs : List (ℕ × ℕ)) (places : List (List ℕ × �
 module _ (form : OrderedTask) (is : IsOrderedTask form) (clauses : List (List ℕ)) (over : AllByRecursion (AllByRecursion (λ l. l < 2 * form.task.facts)) clauses)
     (none : IsUnsatisfiable (never_formula form.task form.known.clauses (places_of form) clauses).clauses) (at_first : AreTrue (initial_state form.task) clauses) where
   without_facts : PlanIsSatisfying → SequenceIsPlan → form.task.facts ≡ 0 → HasNoRun form.task
-  without_facts satisfying sequence zero ks run =
+  without_facts satisfying sequence no_facts ks run =
       let range = in_range_of form is in
-      let goal : form.task.goal ≡ [] = no_goal form.task.goal (subst (λ (n : ℕ). AllByRecursion (λ l. l / 2 < n) form.task.goal) zero (each_from _ form.task.goal (λ l i. range.goals l i))) in
+      let goal : form.task.goal ≡ [] = no_goal form.task.goal (subst (λ (n : ℕ). AllByRecursion (λ l. l / 2 < n) form.task.goal) no_facts (each_from _ form.task.goal (λ l i. range.goals l i))) in
       let reached : IsGoal form.task (initial_state form.task) = record { hopeful = run.reaches.hopeful; reached = rw goal refl } in
       let plan = sequence form 1 [] (omega arith) tt reached in
       let model = satisfying form is 1 plan.0 plan.1 in
-      let empty : clauses ≡ [] = no_clauses (initial_state form.task) clauses (subst (λ (n : ℕ). AreOver n clauses) zero (over_by_half form.task.facts clauses over)) at_first in
-      none _ (subst (λ (cs : List (List ℕ)). Satisfies (filled model.0 (variables (layout_of form.task (places_of form) 1))) (never_formula form.task form.known.clauses (places_of form) cs).clauses) (sym empty)
+      let empty : clauses ≡ [] = no_clauses (initial_state form.task) clauses (subst (λ (n : ℕ). AreOver n clauses) no_facts (over_by_half form.task.facts clauses over)) at_first in
+      none (filled model.0 (variables (layout_of form.task (places_of form) 1))) (subst (λ (cs : List (List ℕ)). Satisfies (filled model.0 (variables (layout_of form.task (places_of form) 1))) (never_formula form.task form.known.clauses (places_of form) cs).clauses) (sym empty)
       (satisfied form.task form.known.clauses (places_of form) range model.0 goal model.1))
 
   pub no_run : NeverIsNoPlan → PlanIsSatisfying → SequenceIsPlan → HasNoRun form.task

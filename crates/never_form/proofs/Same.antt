@@ -55,8 +55,11 @@ module _ (fact : ℕ → ℕ) (first : ℕ) (at : (f : ℕ) → fact f ≡ first
   pub all_cubes : (k : ℕ) (goal : List ℕ) (cs : List (List ℕ)) → coded (cube_clauses fact k (cubes_of cs goal)) ≡ made (cube (2 * first) k goal) ++ made (cubes (2 * first) (k + 1) cs)
   all_cubes k goal cs =
       coded_made (cube_clauses fact k (cubes_of cs goal))
-      ∙ ap made (map-append (map code) (map (λ l. Not k ∷ literal_over fact l ∷ []) goal) (cube_clauses fact (k + 1) (map (map opposite) cs)) ∙ rw (cube_at k goal, cubes_at (k + 1) cs) refl)
+      ∙ ap made (map-append (map code) (map (λ l. Not k ∷ literal_over fact l ∷ []) goal) (cube_clauses fact (k + 1) (map (map opposite) cs)) ∙ both)
       ∙ made_parts (cube (2 * first) k goal) (cubes (2 * first) (k + 1) cs)
+    where
+      both : map (map code) (map (λ l. Not k ∷ literal_over fact l ∷ []) goal) ++ map (map code) (cube_clauses fact (k + 1) (map (map opposite) cs)) ≡ cube (2 * first) k goal ++ cubes (2 * first) (k + 1) cs
+      both = rw (cube_at k goal, cubes_at (k + 1) cs) refl
 
 some_at : (k : ℕ) (cs : List (List ℕ)) → map code (some_cube k cs) ≡ some k (length cs)
 some_at k [] = refl

@@ -1,6 +1,6 @@
 //! How many literals clauses need.
 
-ghost use Rattle.std.specs.Prelude.{◌≡◌, ◌+◌, ◌<◌, ◌≤◌};
+ghost use Rattle.std.specs.Prelude.{◌≡◌, ◌+◌, ◌*◌, ◌<◌, ◌≤◌};
 ghost use Rattle.step_encoding.specs.Limits.{most_literals};
 ghost use Rattle.never_form.specs.Formed.{needed};
 
