@@ -3,3 +3,4 @@ pub mod Below
 pub mod Numbers
 pub mod Same
 pub mod Refuted
+pub mod Forms

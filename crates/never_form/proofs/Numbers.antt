@@ -45,8 +45,8 @@ module _ (task : Task) (pairs : List (ℕ × ℕ)) (places : List (List ℕ × �
       let p = coded (pair_clauses (layout_of task places 1) pairs 0) in
       let q = coded (pair_clauses (layout_of task places 1) pairs 1) in
       let a : length (drop (ends task) (formula_of task pairs places 1).clauses) ≡ length (s ++ (p ++ q)) =
-          ap length (rest_is task pairs places ∙ coded-append (step_clauses (layout_of task places 1) task places 0) (pair_clauses (layout_of task places 1) pairs 0 ++ pair_clauses (layout_of task places 1) pairs 1)
-          ∙ ap (λ (r : List (List ℕ)). s ++ r) (coded-append (pair_clauses (layout_of task places 1) pairs 0) (pair_clauses (layout_of task places 1) pairs 1))) in
+      ap length (rest_is task pairs places ∙ coded-append (step_clauses (layout_of task places 1) task places 0) (pair_clauses (layout_of task places 1) pairs 0 ++ pair_clauses (layout_of task places 1) pairs 1)
+      ∙ ap (λ (r : List (List ℕ)). s ++ r) (coded-append (pair_clauses (layout_of task places 1) pairs 0) (pair_clauses (layout_of task places 1) pairs 1))) in
       let b = length-append s (p ++ q) in
       let c = length-append p q in
       let d = time_long 0 in

@@ -131,13 +131,13 @@ module _ (task : Task) (pairs : List (ℕ × ℕ)) (places : List (List ℕ × �
       let last : List (List Literal) = some_cube (variables z) (cubes_of clauses task.goal) ∷ [] in
       coded-append own (held ++ (last ++ step_part))
       ∙ joined_so (coded own) (coded held) (coded last) (coded (held ++ (last ++ step_part))) (coded step_part)
-          (made (map (moved (2 * (variables z - 2 * task.facts))) clauses)) (made (cube (2 * (variables z - task.facts)) (variables z) task.goal)) (made (cubes (2 * (variables z - task.facts)) (variables z + 1) clauses))
-          (made (some (variables z) (length clauses + 1) ∷ [])) (drop (ends task) (formula_of task pairs places 1).clauses)
-          (all_cubes (fact_at z 1) (variables z - task.facts) after_at (variables z) task.goal clauses)
-          (coded_made own ∙ ap made (clauses_at (fact_at z 0) (variables z - 2 * task.facts) before_at clauses))
-          (some_made (variables z) task.goal clauses)
-          (sym rest_is)
-          (coded-append held (last ++ step_part) ∙ ap (λ (r : List (List ℕ)). coded held ++ r) (coded-append last step_part))
+      (made (map (moved (2 * (variables z - 2 * task.facts))) clauses)) (made (cube (2 * (variables z - task.facts)) (variables z) task.goal)) (made (cubes (2 * (variables z - task.facts)) (variables z + 1) clauses))
+      (made (some (variables z) (length clauses + 1) ∷ [])) (drop (ends task) (formula_of task pairs places 1).clauses)
+      (all_cubes (fact_at z 1) (variables z - task.facts) after_at (variables z) task.goal clauses)
+      (coded_made own ∙ ap made (clauses_at (fact_at z 0) (variables z - 2 * task.facts) before_at clauses))
+      (some_made (variables z) task.goal clauses)
+      (sym rest_is)
+      (coded-append held (last ++ step_part) ∙ ap (λ (r : List (List ℕ)). coded held ++ r) (coded-append last step_part))
 
   -- the formula of clauses
   pub never_same : (clauses : List (List ℕ)) (one : Cnf) → one ≡ formula_of task pairs places 1 → joined task one clauses ≡ never_formula task pairs places clauses

@@ -8,20 +8,15 @@ use Rattle.std.proofs.lemmas.List.{length-append, length-drop}
 use Rattle.gt_core.specs.Literal.{opposite}
 use Rattle.formula_defs.specs.Coded.{literals_in}
 use Rattle.step_encoding.specs.Limits.{most_literals}
+use Rattle.step_plans.proofs.published.ByPlace.{rest_at}
 use Rattle.never_form.specs.Formed.{needed}
 use Rattle.never_form.specs.own.Parts.{made, cube, cubes}
-
--- a list from an item on
-pub from_item : {A : Type 0} (xs : List A) (k : ℕ) (x : A) → slice_get xs k ≡ Some x → drop k xs ≡ x ∷ drop (k + 1) xs
-from_item [] k x e = absurd (cc)
-from_item (y ∷ xs) zero x e = let s : y ≡ x = cc in rw s refl
-from_item (y ∷ xs) (suc k) x e = let f : suc k + 1 ≡ suc (k + 1) = omega arith in rw f (from_item xs k x e)
 
 -- what was made, with the part of one item more
 pub one_turn : {A B : Type 0} (f : List A → List B) (part : A → List B) → ((x : A) (rest : List A) → f (x ∷ rest) ≡ part x ++ f rest)
     → (xs : List A) (k : ℕ) (x : A) (old new : List B) → slice_get xs k ≡ Some x → new ≡ old ++ part x → old ++ f (drop k xs) ≡ new ++ f (drop (k + 1) xs)
 one_turn f part step xs k x old new at is =
-    ap (λ (rest : List _). old ++ f rest) (from_item xs k x at) ∙ ap (λ (t : List _). old ++ t) (step x (drop (k + 1) xs))
+    ap (λ (rest : List _). old ++ f rest) (rest_at xs k x at) ∙ ap (λ (t : List _). old ++ t) (step x (drop (k + 1) xs))
     ∙ sym (append_assoc old (part x) (f (drop (k + 1) xs))) ∙ ap (λ (t : List _). t ++ f (drop (k + 1) xs)) (sym is)
 
 -- one clause is made after another
@@ -43,7 +38,7 @@ pub cubes_turn : (base first : ℕ) (clauses : List (List ℕ)) (k : ℕ) (c : L
 cubes_turn base first clauses k c old new at is =
     let rest = drop (k + 1) clauses in
     let f : (first + k) + 1 ≡ first + (k + 1) = omega arith in
-    ap (λ (cs : List (List ℕ)). old ++ made (cubes base (first + k) cs)) (from_item clauses k c at)
+    ap (λ (cs : List (List ℕ)). old ++ made (cubes base (first + k) cs)) (rest_at clauses k c at)
     ∙ ap (λ (t : List (List ℕ)). old ++ t) (made_parts (cube base (first + k) (map opposite c)) (cubes base ((first + k) + 1) rest))
     ∙ sym (append_assoc old (made (cube base (first + k) (map opposite c))) (made (cubes base ((first + k) + 1) rest)))
     ∙ ap (λ (t : List (List ℕ)). t ++ made (cubes base ((first + k) + 1) rest)) (sym is)
@@ -66,10 +61,10 @@ room_left old left new rest k e le lt =
 
 -- what is needed of clauses, or their literals, from a clause on
 pub needed_from : (clauses : List (List ℕ)) (k : ℕ) (c : List ℕ) → slice_get clauses k ≡ Some c → needed (drop k clauses) ≡ 3 * length c + 1 + needed (drop (k + 1) clauses)
-needed_from clauses k c e = ap needed (from_item clauses k c e)
+needed_from clauses k c e = ap needed (rest_at clauses k c e)
 
 pub literals_from : (clauses : List (List ℕ)) (k : ℕ) (c : List ℕ) → slice_get clauses k ≡ Some c → literals_in (drop k clauses) ≡ length c + literals_in (drop (k + 1) clauses)
-literals_from clauses k c e = ap literals_in (from_item clauses k c e)
+literals_from clauses k c e = ap literals_in (rest_at clauses k c e)
 
 -- the count with what one clause needs
 pub counted_more : (clauses : List (List ℕ)) (k : ℕ) (c : List ℕ) (count few begun : ℕ) → slice_get clauses k ≡ Some c → few ≤ length c → (few < most_literals → few ≡ length c)
@@ -80,7 +75,7 @@ counted_more clauses k c count few begun at fewer exact h =
     let a = h.0 in (
       omega (arith, n, a, fewer),
       λ small.
-      let x : few ≡ length c = exact (omega (arith, small)) in
-      let y = h.1 (omega (arith, small)) in
-      omega (arith, n, x, y),
+          let x : few ≡ length c = exact (omega (arith, small)) in
+          let y = h.1 (omega (arith, small)) in
+          omega (arith, n, x, y),
     )

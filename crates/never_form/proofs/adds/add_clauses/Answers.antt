@@ -14,11 +14,11 @@ pub loop-number-preserved : goal.loop-number-preserved
 loop-number-preserved c =
     let lits : c.deref.result.now ≡ moved c.args.base c.at.result.now = c.deref.ensures.value ∙ c.in_ok-push_moved.ensures ∙ ap (λ (xs : List ℕ). xs ++ moved c.args.base c.at.result.now) c.clear.ensures.items in
     let is : c.add.new.formula.clauses ≡ c.loop-number.formula.clauses ++ made (moved c.args.base c.at.result.now ∷ []) =
-        ap (λ (f : Cnf). f.clauses) c.in_ok-add.ensures.added ∙ ap (λ (xs : List ℕ). c.loop-number.formula.clauses ++ made (xs ∷ [])) lits in
+    ap (λ (f : Cnf). f.clauses) c.in_ok-add.ensures.added ∙ ap (λ (xs : List ℕ). c.loop-number.formula.clauses ++ made (xs ∷ [])) lits in
     let few = c.loop-number.invariant.2 in (
       kept_more c.args.formula.now c.loop-number.formula c.add.new.formula _ c.loop-number.invariant.0 c.in_ok-add.ensures.added,
       c.loop-number.invariant.1
-      ∙ one_turn (λ (cs : List (List ℕ)). made (map (moved c.args.base) cs)) (λ (x : List ℕ). made (moved c.args.base x ∷ [])) (λ x rest. made_more (moved c.args.base x) (map (moved c.args.base) rest))
-      c.args.clauses.now c.loop-number.number c.at.result.now c.loop-number.formula.clauses c.add.new.formula.clauses c.at.ensures is,
+          ∙ one_turn (λ (cs : List (List ℕ)). made (map (moved c.args.base) cs)) (λ (x : List ℕ). made (moved c.args.base x ∷ [])) (λ x rest. made_more (moved c.args.base x) (map (moved c.args.base) rest))
+          c.args.clauses.now c.loop-number.number c.at.result.now c.loop-number.formula.clauses c.add.new.formula.clauses c.at.ensures is,
       omega (arith, few, c.in_ok-add.ensures.few),
     )

@@ -11,8 +11,8 @@ pub loop-number-preserved : goal.loop-number-preserved
 loop-number-preserved c =
     let lits : c.deref.result.now ≡ c.clause.result = c.deref.ensures.value ∙ c.in_ok-push_view.ensures ∙ ap (λ (xs : List ℕ). xs ++ c.clause.result) c.clear.ensures.items in
     let is : c.add_sorted.new.self.clauses ≡ c.loop-number.formula.clauses ++ c.clause.result ∷ [] =
-        ap (λ (f : Cnf). f.clauses) c.in_ok-add_sorted.ensures.ok ∙ ap (λ (xs : List ℕ). c.loop-number.formula.clauses ++ xs ∷ []) lits in (
+    ap (λ (f : Cnf). f.clauses) c.in_ok-add_sorted.ensures.ok ∙ ap (λ (xs : List ℕ). c.loop-number.formula.clauses ++ xs ∷ []) lits in (
       kept_more c.args.formula.now c.loop-number.formula c.add_sorted.new.self _ c.loop-number.invariant.0 c.in_ok-add_sorted.ensures.ok,
       c.loop-number.invariant.1
-      ∙ one_turn (λ (xs : List (List ℕ)). xs) (λ (x : List ℕ). x ∷ []) (λ x rest. refl) c.args.one.now.clauses c.loop-number.number c.clause.result c.loop-number.formula.clauses c.add_sorted.new.self.clauses c.clause.ensures.value is,
+          ∙ one_turn (λ (xs : List (List ℕ)). xs) (λ (x : List ℕ). x ∷ []) (λ x rest. refl) c.args.one.now.clauses c.loop-number.number c.clause.result c.loop-number.formula.clauses c.add_sorted.new.self.clauses c.clause.ensures.value is,
     )

@@ -22,7 +22,7 @@ loop-number-preserved c =
     let more = literals_from c.args.clauses.now c.loop-number.number c.at.result.now c.at.ensures in
     let few = c.loop-number.invariant.2 in
     let is : c.add_cube.new.formula.clauses ≡ c.loop-number.formula.clauses ++ made (cube c.args.base (c.args.first + c.loop-number.number) (map opposite c.at.result.now)) =
-        ap (λ (f : Cnf). f.clauses) c.in_ok-add_cube.ensures.added ∙ ap (λ (xs : List ℕ). c.loop-number.formula.clauses ++ made (cube c.args.base (c.args.first + c.loop-number.number) xs)) lits in (
+    ap (λ (f : Cnf). f.clauses) c.in_ok-add_cube.ensures.added ∙ ap (λ (xs : List ℕ). c.loop-number.formula.clauses ++ made (cube c.args.base (c.args.first + c.loop-number.number) xs)) lits in (
       kept_more c.args.formula.now c.loop-number.formula c.add_cube.new.formula _ c.loop-number.invariant.0 c.in_ok-add_cube.ensures.added,
       c.loop-number.invariant.1 ∙ cubes_turn c.args.base c.args.first c.args.clauses.now c.loop-number.number c.at.result.now c.loop-number.formula.clauses c.add_cube.new.formula.clauses c.at.ensures is,
       omega (arith, long, more, few, c.in_ok-add_cube.ensures.few),
