@@ -14,18 +14,14 @@ use Rattle.step_laws.specs.Never.{never_formula}
 use Rattle.step_encoding.specs.Limits.{most_literals}
 use Rattle.step_encoding.specs.Numbers.{literals_of}
 use Rattle.step_plans.specs.Known.{IsOrdered}
-use Rattle.plan_endings.specs.declared.ending.Ending.{Ending}
 use Rattle.plan_endings.specs.declared.ending.Ending.TheVariants.{TooLarge}
 use Rattle.plan_endings.specs.declared.stop.Stop.{Stop}
 use Rattle.plan_endings.specs.declared.stop.Stop.TheVariants.{Ends, Memory}
 use Rattle.plan_endings.specs.Ends.{EndsBy, StopsBy}
-use Rattle.never_form.specs.Formed.{IsNeverFormula, IsTooLarge, TellsTooLarge, needed, never_size}
-use Rattle.never_form.specs.own.One.{IsOne}
+use Rattle.never_form.specs.Formed.{IsNeverFormula, TellsTooLarge, never_size}
+use Rattle.never_form.specs.own.One.{TellsTooMany}
 
--- the ending tells of so many literals, which are too many for this formula of horizon 1
-abbrev pub TellsTooMany : Cnf → Task → List (List ℕ) → Ending → Type 0
-TellsTooMany one task clauses end = (count : ℕ) × (end ≡ TooLarge 1 count) × (most_literals < count) × (count ≤ never_size one task clauses)
-
+-- an ending that tells of too many literals ends the run
 pub stops_so : (one : Cnf) (task : Task) (clauses : List (List ℕ)) (stop : Stop) (count : ℕ) → stop ≡ Ends (TooLarge 1 count) → most_literals < count → count ≤ never_size one task clauses → EndsBy (TellsTooMany one task clauses) stop
 stops_so one task clauses stop count is over some = rw is (count, refl, over, some)
 

@@ -1,17 +1,17 @@
 //! The formula of clauses, of a ground task.
 
-ghost use Rattle.std.specs.Prelude.{◌≡◌, ◌+◌, ◌*◌, ◌≤◌, ◌<◌, List, ℕ, length, Err, IfOk};
+ghost use Rattle.std.specs.Prelude.{◌≡◌, IfOk};
 ghost use Rattle.clause_base.specs.Formula.{IsUnsatisfiable};
 ghost use Rattle.gt_core.specs.Task.{initial_state};
 ghost use Rattle.gt_core.specs.Laws.{HasNoRun};
 ghost use Rattle.formula_defs.specs.Coded.{formula_of};
-ghost use Rattle.step_laws.specs.Form.{OrderedTask, places_of};
+ghost use Rattle.step_laws.specs.Form.{places_of};
 ghost use Rattle.step_laws.specs.Never.{never_formula};
-ghost use Rattle.step_encoding.specs.Limits.{most_literals};
 ghost use Rattle.never_defs.specs.Sets.{AreTrue};
 ghost use Rattle.never_text.specs.Reading.{AreClauses};
 ghost use Rattle.plan_endings.specs.Ends.{StopsBy};
-ghost use Rattle.never_form.specs.Formed.{IsNeverFormula, TellsTooLarge, never_size};
+ghost use Rattle.never_form.specs.Formed.{IsNeverFormula, TellsTooLarge};
+ghost use Rattle.never_form.specs.own.One.{TellsTooMany};
 
 use crate::counted::counted;
 use crate::joined::joined;
@@ -46,8 +46,7 @@ fn formula_in(
     requires task { form.now.task ≡ task.now }
     requires over { AreClauses task.now.facts clauses.now }
     ensures formula { IfOk result (λ f. f ≡ never_formula task.now form.now.known.clauses (places_of form.now) clauses.now) }
-    ensures stops { StopsBy (λ end. (count : ℕ) × (end ≡ Ending.TooLarge 1 count) × (most_literals < count)
-        × (count ≤ never_size (formula_of task.now form.now.known.clauses (places_of form.now) 1) task.now clauses.now)) result }
+    ensures stops { StopsBy (TellsTooMany (formula_of task.now form.now.known.clauses (places_of form.now) 1) task.now clauses.now) result }
     ensures refutes { IfOk result (λ f. IsUnsatisfiable f.clauses → AreTrue (initial_state task.now) clauses.now → HasNoRun task.now) }
 {
     step_laws::laws::laws();
