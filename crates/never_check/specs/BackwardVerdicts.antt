@@ -8,9 +8,7 @@ use Rattle.never_defs.specs.Sets.{AreTrue}
 use Rattle.never_defs.specs.Propagation.{IsPropagated, IsRefuted}
 use Rattle.never_defs.specs.After.{holds_surely}
 use Rattle.never_defs.specs.Backward.{PassesBackward, GoalPassesBackward, IsBackwardCertificate}
-use Rattle.never_check.specs.Rules.{AreRules}
 use Rattle.never_check.specs.declared.rules.Rules.{Rules}
-use Rattle.never_check.specs.declared.backward.Sides.{Sides}
 use Rattle.never_check.specs.declared.backward.BackwardVerdict.{BackwardVerdict}
 use Rattle.never_check.specs.declared.backward.BackwardVerdict.TheVariants as verdict
 
@@ -27,13 +25,6 @@ ArePassedBackward rules x = AllByRecursion (PassesBackward rules.known.now.claus
 -- it does not pass at the clause with a number
 abbrev pub FailsBackward : Rules → Action → ℕ → Type 0
 FailsBackward rules x k = (k < length rules.clauses.now) × (PassesBackward rules.known.now.clauses rules.clauses.now x (slice_index_or rules.clauses.now k []) → ⊥)
-
--- by what literals are followed on both sides of a step
-pub record AreSides (sides : Sides) : Type 0 where
-  pub plain : AreRules sides.plain.now
-  pub whole : AreRules sides.whole.now
-  pub known : sides.plain.now.known.now ≡ sides.whole.now.known.now
-  pub none : sides.plain.now.clauses.now ≡ []
 
 -- each action passes at each clause
 abbrev pub AllStepsPass : Task → List (ℕ × ℕ) → List (List ℕ) → Type 0

@@ -1,5 +1,5 @@
 -- What a check comes to.
-use Rattle.std.specs.Prelude.{◌≡◌, ℕ, ◌<◌, List, [], Bool, false, length, slice_index_or}
+use Rattle.std.specs.Prelude.{◌≡◌, ℕ, ◌<◌, List, [], Bool, false, length, slice_index_or, MatchBool}
 use Rattle.std.specs.List.{AllByRecursion}
 use Rattle.gt_core.specs.Literal.{is_in}
 use Rattle.gt_core.specs.Task.{Action, Task, action, initial_state}
@@ -38,9 +38,9 @@ AreRefuted rules given = IsRefuted rules.known.now.clauses rules.clauses.now (is
 abbrev pub HasLeast : Rules → List ℕ → Type 0
 HasLeast rules given = (trail : Reached) × IsLeast rules given trail
 
--- a trail has all that the rules tell of the precondition of an action
-abbrev pub IsAssumed : Rules → Action → Reached → Type 0
-IsAssumed rules x trail = IsLeast rules x.precondition trail
+-- a test tells whether something is so
+abbrev pub Decides : Type 0 → Bool → Type 0
+Decides P b = MatchBool b P (P → ⊥)
 
 -- each case of the clause with a number is refuted
 abbrev pub AreCasesRefuted : Rules → Action → ℕ → Type 0

@@ -1,6 +1,6 @@
 //! A first cube that a state has, by which it is excluded from a layer: few literals that excuse each action.
 
-use crate::after::{after, has_all};
+use crate::after::{after, has_all, has_opposite};
 use crate::excluded::{Known, Spare};
 use crate::layers::Layer;
 use crate::shrink::score_of;
@@ -34,16 +34,6 @@ fn best_false(state: &BitRow, lits: &[u32], scores: &[u32]) -> Option<u32> {
         }
     }
     best
-}
-
-/// Whether the reason has the opposite of a literal of a list.
-fn is_met(reason: &BitRow, lits: &[u32]) -> bool {
-    for lit in lits {
-        if reason.contains(opposite(*lit)) {
-            return true;
-        }
-    }
-    false
 }
 
 /// Adds what a state has to have for a literal to hold after an action that runs in it, where it does so.
@@ -165,7 +155,7 @@ fn excuse(
     let Some(act) = known.task.acts().get(number as usize) else {
         return Ok(true);
     };
-    if is_met(&making.reason, act.pre()) {
+    if has_opposite(&making.reason, act.pre()) {
         return Ok(true);
     }
     match best_false(state, act.pre(), scores) {
