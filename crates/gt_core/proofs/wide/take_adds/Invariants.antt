@@ -2,7 +2,7 @@ use Rattle.std.proofs.Common.{◌≡◌, ℕ, ◌*◌, ◌<◌, ◌||◌, drop, 
 use Rattle.std.specs.List.{list_any}
 use Rattle.gt_core.specs.Literal.{state_of}
 use Rattle.gt_core.specs.Active.{is_active}
-use Rattle.gt_core.proofs.task.take_adds.Given as goal
+use Rattle.gt_core.proofs.wide.take_adds.Given as goal
 
 abbrev pub invariant-loop-effect : goal.invariant-loop-effect
 invariant-loop-effect l =
