@@ -1,5 +1,5 @@
 -- What a check of a backward set comes to.
-use Rattle.std.specs.Prelude.{◌≡◌, ℕ, ◌<◌, List, [], ◌++◌, map, Bool, length, slice_index_or}
+use Rattle.std.specs.Prelude.{◌≡◌, ℕ, ◌<◌, List, [], ◌++◌, map, Bool, length, slice_index_or, Option, MatchOption}
 use Rattle.std.specs.List.{AllByRecursion}
 use Rattle.gt_core.specs.Literal.{opposite, is_in}
 use Rattle.gt_core.specs.Task.{Action, Task, action, initial_state}
@@ -29,6 +29,10 @@ FailsBackward rules x k = (k < length rules.clauses.now) × (PassesBackward rule
 -- each action passes at each clause
 abbrev pub AllStepsPass : Task → List (ℕ × ℕ) → List (List ℕ) → Type 0
 AllStepsPass task known clauses = (a : ℕ) → a < length task.actions → AllByRecursion (PassesBackward known clauses (action task a)) clauses
+
+-- whether an action passes at all clauses, or the number of one at which it does not
+abbrev pub TellsStep : Rules → Action → Option ℕ → Type 0
+TellsStep rules x o = MatchOption o (ArePassedBackward rules x) (FailsBackward rules x)
 
 -- at the clause with the first number the action with the second does not pass
 abbrev pub StepFails : Task → List (ℕ × ℕ) → List (List ℕ) → ℕ × ℕ → Type 0

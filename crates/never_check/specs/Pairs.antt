@@ -28,10 +28,10 @@ pub record IsReady (pair : Pair) (held : Held) (trail : Reached) : Type 0 where
   pub apart : HasNoPair (is_in trail.literals)
 
 -- the clause is looked through from a place on
-pub record IsAt (pair : Pair) (place : ℕ) (held : Held) (trail : Reached) : Type 0 where
-  pub pair : IsPairOf pair
-  pub place : place ≤ length pair.clause.now
-  pub ready : IsReady pair held trail
+pub record IsAt (looked : Pair) (from : ℕ) (held : Held) (trail : Reached) : Type 0 where
+  pub pair : IsPairOf looked
+  pub place : from ≤ length looked.clause.now
+  pub ready : IsReady looked held trail
 
 -- a literal of the clause is looked at
 pub record IsPlace (at : At) (held : Held) (trail : Reached) : Type 0 where

@@ -18,10 +18,10 @@ pub record IsNothing (facts : ℕ) (nothing : Nothing) : Type 0 where
   pub uses : AreUses (2 * facts) nothing.clauses nothing.uses.items
 
 -- they are these known clauses alone
-pub record ArePlain (known : KnownClauses) (rules : Rules) : Type 0 where
-  pub rules : AreRules rules
-  pub none : rules.clauses.now ≡ []
-  pub known : rules.known.now ≡ known
+pub record ArePlain (pairs : KnownClauses) (plain : Rules) : Type 0 where
+  pub rules : AreRules plain
+  pub none : plain.clauses.now ≡ []
+  pub known : plain.known.now ≡ pairs
 
 -- a set of literals obeys them
 abbrev pub ObeysRules : Rules → (ℕ → Bool) → Type 0

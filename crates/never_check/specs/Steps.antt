@@ -20,18 +20,18 @@ pub record IsStep (step : Step) : Type 0 where
   pub fits : ActionFits (2 * step.sides.now.whole.now.known.now.facts) step.act.now
 
 -- each trail has all that the rules of its side tell by themselves
-pub record IsBegunStep (step : Step) (before after : Reached) : Type 0 where
-  pub step : IsStep step
-  pub plain : IsBase step.sides.now.plain.now before
-  pub base : IsBase step.sides.now.whole.now after
+pub record IsBegunStep (tried : Step) (before after : Reached) : Type 0 where
+  pub step : IsStep tried
+  pub plain : IsBase tried.sides.now.plain.now before
+  pub base : IsBase tried.sides.now.whole.now after
 
 -- the first trail has all that the rules tell of the precondition
-pub record IsAssumedStep (step : Step) (before after : Reached) : Type 0 where
-  pub step : IsStep step
-  pub least : IsLeast step.sides.now.plain.now step.act.now.precondition before
-  pub base : IsBase step.sides.now.whole.now after
+pub record IsAssumedStep (tried : Step) (before after : Reached) : Type 0 where
+  pub step : IsStep tried
+  pub least : IsLeast tried.sides.now.plain.now tried.act.now.precondition before
+  pub base : IsBase tried.sides.now.whole.now after
 
 -- two trails are as two others
-pub record AreSame (before after first second : Reached) : Type 0 where
-  pub before : before ≡ first
-  pub after : after ≡ second
+pub record AreSame (one other first second : Reached) : Type 0 where
+  pub before : one ≡ first
+  pub after : other ≡ second

@@ -12,11 +12,11 @@ pub record IsTrial (trial : Trial) : Type 0 where
   pub fits : ActionFits (2 * trial.rules.now.known.now.facts) trial.act.now
 
 -- a trail has all that the rules tell by themselves
-pub record IsBegun (trial : Trial) (trail : Reached) : Type 0 where
-  pub trial : IsTrial trial
-  pub base : IsBase trial.rules.now trail
+pub record IsBegun (tried : Trial) (trail : Reached) : Type 0 where
+  pub trial : IsTrial tried
+  pub base : IsBase tried.rules.now trail
 
 -- a trail has all that the rules tell of the precondition
-pub record IsAssumed (trial : Trial) (trail : Reached) : Type 0 where
-  pub trial : IsTrial trial
-  pub least : IsLeast trial.rules.now trial.act.now.precondition trail
+pub record IsAssumed (tried : Trial) (trail : Reached) : Type 0 where
+  pub trial : IsTrial tried
+  pub least : IsLeast tried.rules.now tried.act.now.precondition trail

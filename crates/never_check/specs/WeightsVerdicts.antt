@@ -16,11 +16,11 @@ pub record AreSummed (size : ℕ) (weights : List (ℕ × ℕ)) : Type 0 where
   pub total : sum_by (λ w. w.1) weights ≤ 9223372036854775807
 
 -- weights over the facts of the known clauses, and a trail that has all that these tell by themselves
-pub record IsWeighing (rules : Rules) (weights : List (ℕ × ℕ)) (trail : Reached) : Type 0 where
-  pub rules : AreRules rules
-  pub none : rules.clauses.now ≡ []
-  pub weights : AreSummed (2 * rules.known.now.facts) weights
-  pub base : IsBase rules trail
+pub record IsWeighing (plain : Rules) (ws : List (ℕ × ℕ)) (trail : Reached) : Type 0 where
+  pub rules : AreRules plain
+  pub none : plain.clauses.now ≡ []
+  pub weights : AreSummed (2 * plain.known.now.facts) ws
+  pub base : IsBase plain trail
 
 -- what a verdict says of weights
 abbrev pub IsWeightsVerdict : Task → List (ℕ × ℕ) → List (ℕ × ℕ) → WeightsVerdict → Type 0

@@ -7,8 +7,8 @@ ghost use Rattle.gt_core.specs.{Literal.opposite, Literal.is_in, Clauses.IsKnown
 ghost use Rattle.implied_literals.specs.Tested.{ActionFits};
 ghost use Rattle.never_defs.specs.{Sets.AreTrue, Propagation.IsRefuted, After.holds_surely, Backward.GoalPassesBackward};
 ghost use Rattle.never_check.specs.{Follow.AreBelow, Rules.AreRules, Given.AreGiven, Given.AreGivenPlain, Verdicts.IsBase, Verdicts.IsLeast};
-ghost use Rattle.never_check.specs.{Verdicts.AreRefuted, Verdicts.Decides, Steps.AreSides, Steps.IsBegunStep, Steps.IsAssumedStep, Steps.AreSame};
-ghost use Rattle.never_check.specs.{BackwardVerdicts.IsStepRefuted, BackwardVerdicts.ArePassedBackward, BackwardVerdicts.FailsBackward};
+ghost use Rattle.never_check.specs.{Verdicts.AreRefuted, Verdicts.AllOrOne, Verdicts.Decides, Steps.AreSides, Steps.IsBegunStep, Steps.IsAssumedStep, Steps.AreSame};
+ghost use Rattle.never_check.specs.{BackwardVerdicts.IsStepRefuted, BackwardVerdicts.ArePassedBackward, BackwardVerdicts.FailsBackward, BackwardVerdicts.TellsStep};
 ghost use Rattle.never_check.specs.{BackwardVerdicts.AllStepsPass, BackwardVerdicts.StepFails, BackwardVerdicts.IsBackwardVerdict};
 
 use crate::after::sure_after;
@@ -47,13 +47,10 @@ fn first_open(
     given: &Given,
     trail: &mut Trail,
 ) -> Result<Option<u32>, Memory>
-    requires given { AreGivenPlain plain.now given.now }
     requires goal { IsLeast plain.now given.now.task.now.goal trail.old }
+    requires given { AreGivenPlain plain.now given.now }
     ensures kept { OnOk result (trail.new ≡ trail.old) }
-    ensures told { IfOk result (λ o. MatchOption o
-        (AllByRecursion (λ c. AreRefuted plain.now (given.now.task.now.goal ++ map opposite c)) given.now.clauses.now)
-        (λ k. (k < length given.now.clauses.now)
-        × (AreRefuted plain.now (given.now.task.now.goal ++ map opposite (slice_index_or given.now.clauses.now k [])) → ⊥))) }
+    ensures told { IfOk result (AllOrOne (λ c. AreRefuted plain.now (given.now.task.now.goal ++ map opposite c)) given.now.clauses.now) }
 {
     for number in 0..given.clauses.len() {
         let lits = turned(alloc, given.clauses.at(number))?;
@@ -75,10 +72,7 @@ fn check_goal(
     requires base { IsBase plain.now trail.old }
     ensures front { OnOk result (take (length trail.old.literals) trail.new.literals ≡ trail.old.literals) }
     ensures facts { OnOk result (trail.new.facts ≡ trail.old.facts) }
-    ensures told { IfOk result (λ o. MatchOption o
-        (AllByRecursion (GoalPassesBackward given.now.task.now plain.now.known.now.clauses) given.now.clauses.now)
-        (λ k. (k < length given.now.clauses.now)
-        × (GoalPassesBackward given.now.task.now plain.now.known.now.clauses (slice_index_or given.now.clauses.now k []) → ⊥))) }
+    ensures told { IfOk result (AllOrOne (GoalPassesBackward given.now.task.now plain.now.known.now.clauses) given.now.clauses.now) }
 {
     if given.task.hopeless() {
         return Ok(None);
@@ -180,9 +174,7 @@ fn check_uses(
 fn check_effects(step: &Step, before: &mut Trail, after: &mut Trail) -> Result<Option<u32>, Memory>
     requires { IsAssumedStep step.now before.old after.old }
     ensures kept { OnOk result (AreSame before.new after.new before.old after.old) }
-    ensures told { IfOk result (λ o. MatchOption o
-        (ArePassedBackward step.now.sides.now.whole.now step.now.act.now)
-        (FailsBackward step.now.sides.now.whole.now step.now.act.now)) }
+    ensures told { IfOk result (TellsStep step.now.sides.now.whole.now step.now.act.now) }
 {
     for effect in step.act.effects() {
         let found = check_uses(step, effect.lit(), before, after)?;
@@ -197,9 +189,7 @@ fn check_effects(step: &Step, before: &mut Trail, after: &mut Trail) -> Result<O
 fn check_action(step: &Step, before: &mut Trail, after: &mut Trail) -> Result<Option<u32>, Memory>
     requires { IsBegunStep step.now before.old after.old }
     ensures kept { OnOk result (AreSame before.new after.new before.old after.old) }
-    ensures told { IfOk result (λ o. MatchOption o
-        (ArePassedBackward step.now.sides.now.whole.now step.now.act.now)
-        (FailsBackward step.now.sides.now.whole.now step.now.act.now)) }
+    ensures told { IfOk result (TellsStep step.now.sides.now.whole.now step.now.act.now) }
 {
     let from = before.len();
     if refutes(step.sides.plain, step.act.pre(), before)? {
@@ -212,10 +202,10 @@ fn check_action(step: &Step, before: &mut Trail, after: &mut Trail) -> Result<Op
 }
 
 /// A clause and an action that does not pass at it.
-fn check_actions(
+fn check_actions<'a>(
     alloc: Global,
-    sides: &Sides,
-    task: &Task,
+    sides: &'a Sides<'a>,
+    task: &'a Task,
     before: &mut Trail,
     after: &mut Trail,
 ) -> Result<Option<(u32, u32)>, Memory>

@@ -6,7 +6,7 @@ ghost use Rattle.containers.specs.Limits.{certificate_bytes};
 ghost use Rattle.gt_core.specs.{Literal.is_in, Clauses.IsKnownClauses, Lawful.is_task, Task.initial_state, Task.action};
 ghost use Rattle.never_defs.specs.{Sets.is_true_in, Sets.AreTrue, Forward.GoalPassesForward};
 ghost use Rattle.never_check.specs.{Follow.AreBelow, Rules.AreRules, Given.AreGiven, Verdicts.IsBase, Verdicts.Decides, Verdicts.AreCasesRefuted};
-ghost use Rattle.never_check.specs.{Verdicts.ArePassed, Verdicts.DoesNotPass, Verdicts.IsForwardVerdict, Trials.IsBegun, Trials.IsAssumed};
+ghost use Rattle.never_check.specs.{Verdicts.ArePassed, Verdicts.DoesNotPass, Verdicts.TellsPassed, Verdicts.IsForwardVerdict, Trials.IsBegun, Trials.IsAssumed};
 
 use crate::begin::begun;
 use crate::cases::{Held, Pair, refute_from};
@@ -118,7 +118,7 @@ fn check_uses(trial: &Trial, lit: u32, trail: &mut Trail) -> Result<Option<u32>,
 fn check_effects(trial: &Trial, trail: &mut Trail) -> Result<Option<u32>, Memory>
     requires { IsAssumed trial.now trail.old }
     ensures kept { OnOk result (trail.new ≡ trail.old) }
-    ensures told { IfOk result (λ o. MatchOption o (ArePassed trial.now.rules.now trial.now.act.now) (DoesNotPass trial.now.rules.now trial.now.act.now)) }
+    ensures told { IfOk result (TellsPassed trial.now.rules.now trial.now.act.now) }
 {
     for effect in trial.act.effects() {
         let found = check_uses(trial, opposite(effect.lit()), trail)?;
@@ -133,7 +133,7 @@ fn check_effects(trial: &Trial, trail: &mut Trail) -> Result<Option<u32>, Memory
 fn check_action(trial: &Trial, trail: &mut Trail) -> Result<Option<u32>, Memory>
     requires { IsBegun trial.now trail.old }
     ensures kept { OnOk result (trail.new ≡ trail.old) }
-    ensures told { IfOk result (λ o. MatchOption o (ArePassed trial.now.rules.now trial.now.act.now) (DoesNotPass trial.now.rules.now trial.now.act.now)) }
+    ensures told { IfOk result (TellsPassed trial.now.rules.now trial.now.act.now) }
 {
     let from = trail.len();
     if refutes(trial.rules, trial.act.pre(), trail)? {
@@ -146,10 +146,10 @@ fn check_action(trial: &Trial, trail: &mut Trail) -> Result<Option<u32>, Memory>
 }
 
 /// A clause and an action that does not pass at it.
-fn check_actions(
+fn check_actions<'a>(
     alloc: Global,
-    rules: &Rules,
-    task: &Task,
+    rules: &'a Rules<'a>,
+    task: &'a Task,
     trail: &mut Trail,
 ) -> Result<Option<(u32, u32)>, Memory>
     requires rules { AreRules rules.now }

@@ -8,15 +8,13 @@ use Rattle.never_check.proofs.Turns.{act_within, act_fits, acts_next, acts_all}
 use Rattle.never_check.proofs.backward.check_actions.Goals as goal
 
 pub check_action-requires : goal.check_action-requires
-check_action-requires c = record {
-  step = record {
-    sides = c.requires.sides;
-    fits =
-        act_fits c.args.task.now c.acts.result.now c.acts.ensures.acts c.loop-number.number (let t = c.loop-number-test.true in omega (arith, t)) c.requires.lawful _ c.act-act.result.now c.requires.facts c.act-act.ensures.act;
-  };
-  plain = subst (λ (r : Reached). IsBase c.args.sides.now.plain.now r) (sym c.loop-number.invariant.before) c.requires.plain;
-  base = subst (λ (r : Reached). IsBase c.args.sides.now.whole.now r) (sym c.loop-number.invariant.after) c.requires.base;
-}
+check_action-requires c =
+    let fits = act_fits c.args.task.now c.acts.result.now c.acts.ensures.acts c.loop-number.number (let t = c.loop-number-test.true in omega (arith, t)) c.requires.lawful _ c.act-act.result.now c.requires.facts c.act-act.ensures.act in
+    record {
+      step = record { sides = c.requires.sides; fits = fits };
+      plain = subst (λ (r : Reached). IsBase c.args.sides.now.plain.now r) (sym c.loop-number.invariant.before) c.requires.plain;
+      base = subst (λ (r : Reached). IsBase c.args.sides.now.whole.now r) (sym c.loop-number.invariant.after) c.requires.base;
+    }
 
 pub returns-in-Some : goal.returns-in-Some
 returns-in-Some c =

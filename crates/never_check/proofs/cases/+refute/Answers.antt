@@ -14,20 +14,14 @@ use Rattle.never_check.specs.Refuted.{AreContradicted, IsWayContradicted}
 use Rattle.never_check.specs.Pairs.{IsReady, IsPlace}
 use Rattle.never_check.proofs.Grown.{front_then, when_true, when_false, either_way}
 use Rattle.never_check.proofs.Casing.{settled_clash, settled_told, leaf_true, leaf_false, way_clash, way_true, way_false, open_true, open_stays, open_made, conditions_push, conditions_at}
-use Rattle.never_check.proofs.Pairing.{ready_settled, among_any, literal_below, none_below, ready_next, ready_joined, joins_none, way_same, at_place, at_end, rest_same}
+use Rattle.never_check.proofs.Pairing.{ready_settled, among_any, literal_below, none_below, ready_next, ready_joined, joins_none, way_same, place_told, at_place, at_end, rest_same}
 use Rattle.never_check.proofs.cases.+refute.Goals as goal
 
 pub refute_way-refute_from-requires : goal.refute_way-refute_from-requires
 refute_way-refute_from-requires t c =
     let a = when_false c.in_ok-assume.field-0 _ c.if-branch.false c.in_ok-assume.ensures.told in
-    let place = c.requires.at.place in (
-      search rules,
-      record {
-        pair = c.requires.at.pair;
-        place = omega (arith, place);
-        ready = ready_next c.args.at.now.pair.now c.args.held.now c.args.trail.now c.assume.new.trail c.requires.at.ready c.in_ok-assume.ensures.facts a.0.front a.0.apart;
-      },
-    )
+    let ready = ready_next c.args.at.now.pair.now c.args.held.now c.args.trail.now c.assume.new.trail c.requires.at.ready c.in_ok-assume.ensures.facts a.0.front a.0.apart in
+    (search rules, record { pair = c.requires.at.pair; place = let place = c.requires.at.place in omega (arith, place); ready = ready })
 
 pub refute_way-refute_from-requires-2 : goal.refute_way-refute_from-requires-2
 refute_way-refute_from-requires-2 t c =
@@ -164,45 +158,36 @@ refute_ways-refute_conditions-requires t c =
 pub refute_ways-returns-clause-told : goal.refute_ways-returns-clause-told
 refute_ways-returns-clause-told t c =
     let pair = c.args.pair.now in
+    let at =
+    place_told pair c.args.place c.args.held.now.more.now c.args.trail.now.literals (let le = c.requires.place in let ne = c.if-place-pair.false in omega (arith, le, ne)) c.opposite-lit.result c.opposite-lit.ensures c.opposite.result
+    c.opposite.ensures c.in_ok-none.none c.in_ok-none.ensures c.surely_makes.result c.surely_makes.ensures c.if-surely_makes.false c.in_ok-refute_way.field-0 c.in_ok-refute_way.ensures.told
+    in
+    let stays = when_true c.in_ok-refute_way.field-0 _ c.if-not-branch.false at.way in
+    let kept = ap (λ (r : Reached). r.literals) c.in_ok-refute_way.ensures.kept in
     let x = pair.act.now in
     let rs = pair.rules.now in
     let more = c.args.held.now.more.now in
     let tr = c.args.trail.now.literals in
-    let le = c.requires.place in
-    let ne = c.if-place-pair.false in
-    let lt : c.args.place < length pair.clause.now = omega (arith, le, ne) in
     let l = slice_index pair.clause.now c.args.place in
     let rest = drop (c.args.place + 1) pair.clause.now in
-    let lit = c.opposite-lit.ensures in
-    let none : c.in_ok-none.none ≡ none_makes x (opposite (opposite l)) = c.in_ok-none.ensures ∙ ap (none_makes x) (c.opposite.ensures ∙ ap opposite lit) in
-    let unsure : action_surely_makes x (opposite l) ≡ false = ap (action_surely_makes x) (sym lit) ∙ sym c.surely_makes.ensures ∙ c.if-surely_makes.false in
-    let way = way_same rs more tr tr (cases_of x rest) (c.opposite-lit.result ∷ []) (opposite l ∷ []) c.in_ok-none.none (none_makes x (opposite (opposite l))) c.in_ok-refute_way.field-0 refl (ap (λ (k : ℕ). k ∷ []) lit) none c.in_ok-refute_way.ensures.told in
-    let stays = when_true c.in_ok-refute_way.field-0 _ c.if-not-branch.false way in
-    let kept = ap (λ (r : Reached). r.literals) c.in_ok-refute_way.ensures.kept in
-    rest_same rs more tr x (drop c.args.place pair.clause.now) (l ∷ rest) c.in_ok-refuted-3.refuted (at_place pair.clause.now c.args.place lt)
+    rest_same rs more tr x (drop c.args.place pair.clause.now) (l ∷ rest) c.in_ok-refuted-3.refuted (at_place pair.clause.now c.args.place at.within)
     (either_way c.in_ok-refuted-3.refuted
-    (λ all. open_true rs more tr x l rest (action_surely_makes x (opposite l)) unsure stays (subst (λ (ls : List ℕ). AllByRecursion (λ d. IsWayContradicted rs more ls (cases_of x rest) (record { literals = d; clauses = if_made x (opposite l) })) (conditions_of x (opposite l))) kept all))
-    (λ nay. open_made rs more tr x l rest (action_surely_makes x (opposite l)) unsure (λ all. nay (subst (λ (ls : List ℕ). AllByRecursion (λ d. IsWayContradicted rs more ls (cases_of x rest) (record { literals = d; clauses = if_made x (opposite l) })) (conditions_of x (opposite l))) (sym kept) all)))
+    (λ all. open_true rs more tr x l rest (action_surely_makes x (opposite l)) at.unsure stays (subst (λ (ls : List ℕ). AllByRecursion (λ d. IsWayContradicted rs more ls (cases_of x rest) (record { literals = d; clauses = if_made x (opposite l) })) (conditions_of x (opposite l))) kept all))
+    (λ nay. open_made rs more tr x l rest (action_surely_makes x (opposite l)) at.unsure (λ all. nay (subst (λ (ls : List ℕ). AllByRecursion (λ d. IsWayContradicted rs more ls (cases_of x rest) (record { literals = d; clauses = if_made x (opposite l) })) (conditions_of x (opposite l))) (sym kept) all)))
     c.in_ok-refuted-3.ensures.told)
 
 pub refute_ways-returns-then-not-branch-clause-told : goal.refute_ways-returns-then-not-branch-clause-told
 refute_ways-returns-then-not-branch-clause-told t c =
     let pair = c.args.pair.now in
-    let x = pair.act.now in
-    let rs = pair.rules.now in
-    let more = c.args.held.now.more.now in
-    let tr = c.args.trail.now.literals in
-    let le = c.requires.place in
-    let ne = c.if-place-pair.false in
-    let lt : c.args.place < length pair.clause.now = omega (arith, le, ne) in
-    let l = slice_index pair.clause.now c.args.place in
-    let rest = drop (c.args.place + 1) pair.clause.now in
-    let lit = c.opposite-lit.ensures in
-    let none : c.in_ok-none.none ≡ none_makes x (opposite (opposite l)) = c.in_ok-none.ensures ∙ ap (none_makes x) (c.opposite.ensures ∙ ap opposite lit) in
-    let unsure : action_surely_makes x (opposite l) ≡ false = ap (action_surely_makes x) (sym lit) ∙ sym c.surely_makes.ensures ∙ c.if-surely_makes.false in
-    let way = way_same rs more tr tr (cases_of x rest) (c.opposite-lit.result ∷ []) (opposite l ∷ []) c.in_ok-none.none (none_makes x (opposite (opposite l))) c.in_ok-refute_way.field-0 refl (ap (λ (k : ℕ). k ∷ []) lit) none c.in_ok-refute_way.ensures.told in
-    let gone = when_false c.in_ok-refute_way.field-0 _ c.if-not-branch.true way in
-    λ all. open_stays rs more tr x l rest (action_surely_makes x (opposite l)) unsure gone (subst (λ (ls : List ℕ). AreContradicted rs more tr (cases_of x ls)) (at_place pair.clause.now c.args.place lt) all)
+    let at =
+    place_told pair c.args.place c.args.held.now.more.now c.args.trail.now.literals (let le = c.requires.place in let ne = c.if-place-pair.false in omega (arith, le, ne)) c.opposite-lit.result c.opposite-lit.ensures c.opposite.result
+    c.opposite.ensures c.in_ok-none.none c.in_ok-none.ensures c.surely_makes.result c.surely_makes.ensures c.if-surely_makes.false c.in_ok-refute_way.field-0 c.in_ok-refute_way.ensures.told
+    in
+    let gone = when_false c.in_ok-refute_way.field-0 _ c.if-not-branch.true at.way in
+    let known = pair.rules.now in
+    let have = c.args.trail.now.literals in
+    λ all. open_stays known c.args.held.now.more.now have pair.act.now (slice_index pair.clause.now c.args.place) (drop (c.args.place + 1) pair.clause.now) (action_surely_makes pair.act.now (opposite (slice_index pair.clause.now c.args.place)))
+    at.unsure gone (subst (λ (ls : List ℕ). AreContradicted known c.args.held.now.more.now have (cases_of pair.act.now ls)) (at_place pair.clause.now c.args.place at.within) all)
 
 pub refute_ways-returns-then-place-pair-clause-told : goal.refute_ways-returns-then-place-pair-clause-told
 refute_ways-returns-then-place-pair-clause-told t c =

@@ -7,14 +7,12 @@ use Rattle.never_check.proofs.Turns.{act_within, act_fits, acts_next, acts_all}
 use Rattle.never_check.proofs.forward.check_actions.Goals as goal
 
 pub check_action-requires : goal.check_action-requires
-check_action-requires c = record {
-  trial = record {
-    rules = c.requires.rules;
-    fits =
-        act_fits c.args.task.now c.acts.result.now c.acts.ensures.acts c.loop-number.number (let t = c.loop-number-test.true in omega (arith, t)) c.requires.lawful _ c.act-act.result.now c.requires.facts c.act-act.ensures.act;
-  };
-  base = subst (λ (r : Reached). IsBase c.args.rules.now r) (sym c.loop-number.invariant.kept) c.requires.base;
-}
+check_action-requires c =
+    let fits = act_fits c.args.task.now c.acts.result.now c.acts.ensures.acts c.loop-number.number (let t = c.loop-number-test.true in omega (arith, t)) c.requires.lawful _ c.act-act.result.now c.requires.facts c.act-act.ensures.act in
+    record {
+      trial = record { rules = c.requires.rules; fits = fits };
+      base = subst (λ (r : Reached). IsBase c.args.rules.now r) (sym c.loop-number.invariant.kept) c.requires.base;
+    }
 
 pub returns-in-Some : goal.returns-in-Some
 returns-in-Some c =
