@@ -2,8 +2,8 @@ use Rattle.std.proofs.Common.{◌≡◌, ◌∙◌, ◌++◌, ℕ, List, Ok, tak
 use Rattle.clause_base.specs.Formula.{Cnf, IsUnsatisfiable}
 use Rattle.lrat_judge.specs.Verdicts.{verdict_of}
 use Rattle.lrat_judge.specs.declared.verdict.Verdict.TheVariants.{Refuted}
-use Rattle.judge_top.proofs.Given.{some_taken, verdict_early, verdict_at_end}
-use Rattle.judge_top.proofs.verdict.verdict_on.Goals as goal
+use Rattle.proof_verdict.proofs.published.Given.{some_taken, verdict_early, verdict_at_end}
+use Rattle.proof_verdict.proofs.verdict.verdict_on.Goals as goal
 
 pub returns-in_default-clause-refuted : goal.returns-in_default-clause-refuted
 returns-in_default-clause-refuted g c entries e =

@@ -1,6 +1,6 @@
 use Rattle.std.proofs.Common.{◌≡◌, ◌++◌, length}
 use Rattle.sat_text.specs.Dimacs.{formula_text}
-use Rattle.judge_top.proofs.told.told.Given as goal
+use Rattle.proof_verdict.proofs.told.told.Given as goal
 
 -- what was told, and what is left to be told, are the text
 abbrev pub invariant-telling : goal.invariant-telling

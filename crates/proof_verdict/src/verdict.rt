@@ -4,7 +4,7 @@ ghost use Rattle.clause_base.specs.Formula.{IsUnsatisfiable};
 ghost use Rattle.pl_io.specs.Outside.{Rose};
 ghost use Rattle.pl_io.specs.Tape.{IsAtFront, given_opened, given_more};
 ghost use Rattle.plan_endings.specs.Ends.{StopsBy};
-ghost use Rattle.judge_top.specs.Answers.{IsUnread, IsVerdictOn, stop_of};
+ghost use Rattle.proof_verdict.specs.Verdict.{IsUnread, IsVerdictOn, stop_of};
 
 use clause_base::formula::Formula;
 use lrat_judge::judge::Judge;
@@ -14,8 +14,8 @@ use plan_endings::stop::Stop;
 use plan_endings::{Ending, File};
 use std::alloc::Global;
 
-/// How many bytes a piece of a proof has at most.
-const PIECE: usize = 65536;
+/// How many bytes a piece of a file on a tape has at most.
+pub const PIECE: usize = 65536;
 
 // The stop of a tape that gave nothing.
 fn stop_of(error: TakeError) -> Stop

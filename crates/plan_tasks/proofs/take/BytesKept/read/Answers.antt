@@ -1,7 +1,7 @@
 use Rattle.std.proofs.Common.{true, false, [], ◌∷◌, Ok, Err, refl, ap, arith, inl, inr, length, sym, ◌∙◌, append-nil}
 use Rattle.pl_io.specs.Outside.{Heard}
 use Rattle.plan_tasks.proofs.published.Hearing.{heard_is, so_whole, so_front, agrees_same, agrees_one}
-use Rattle.plan_tasks.proofs.take.BytesKept.take_one.Goals as goal
+use Rattle.plan_tasks.proofs.take.BytesKept.read.Goals as goal
 
 pub returns-in-Ok-Whole-clause-agrees : goal.returns-in-Ok-Whole-clause-agrees
 returns-in-Ok-Whole-clause-agrees g c =

@@ -1,25 +1,13 @@
-//! The text of a formula.
+//! The text of a formula, for the solver whose proof is judged.
 ghost use Rattle.std.specs.Prelude.{◌≡◌, IfOk};
 ghost use Rattle.sat_text.specs.Dimacs.{formula_text};
 ghost use Rattle.plan_endings.specs.Ends.{OnlyMemory};
-ghost use Rattle.judge_top.specs.Answers.{word_of};
 
 use clause_base::formula::Formula;
 use pl_io::Bytes;
 use plan_endings::stop::Stop;
-use requests::Stepping;
 use sat_text::dimacs::Text;
 use std::alloc::Global;
-
-/// The word for a kind of steps.
-pub fn word_of(steps: Stepping) -> &'static str
-    ensures { result.now ≡ word_of steps }
-{
-    match steps {
-        Stepping::Exists => "exists",
-        Stepping::All => "all",
-    }
-}
 
 /// The text of the formula of a horizon, made whole, so that nothing is written where there is no memory for it.
 pub fn told(alloc: Global, word: &[u8], horizon: u32, formula: &Formula) -> Result<Bytes, Stop>
