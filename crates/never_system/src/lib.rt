@@ -6,6 +6,7 @@
 #![tactic(auto)]
 
 mod acts;
+pub mod aiger;
 pub mod blif;
 mod facts;
 mod names;
