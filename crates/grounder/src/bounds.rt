@@ -10,12 +10,10 @@ const MOST_TUPLES: u64 = 4_000_000;
 const MOST_WIDE_TUPLES: u64 = 1_000_000_000_000_000_000;
 
 /// How many tuples a task may have, and how many facts, actions and effects with a condition.
-#[derive(Clone, Copy)]
+#[derive(Drop)]
 pub struct Bounds {
-    /// How many tuples.
-    pub tuples: u64,
-    /// How many of the others.
-    pub task: Limits,
+    pub(crate) tuples: u64,
+    pub(crate) task: Limits,
 }
 
 impl Model for Bounds {

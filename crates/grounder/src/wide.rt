@@ -56,7 +56,7 @@ impl Model for WideGrounded {
 /// All parts are let go in one call, so that a proof has one step for it and not one for each part.
 impl Drop for WideGrounded {
     fn drop(self) {
-        let_go!(self: WideWideGrounded { facts, calls, task });
+        let_go!(self: WideGrounded { facts, calls, task });
     }
 }
 
