@@ -1,5 +1,5 @@
 -- What was found makes a grounded task.
-use Rattle.std.proofs.Common.{◌≡◌, ℕ, ◌≤◌, List, length, sym, ◌∙◌, subst}
+use Rattle.std.proofs.Common.{◌≡◌, ◌≤◌, List, length, sym, ◌∙◌, subst}
 use Rattle.std.specs.Prelude.{not}
 use Rattle.std.specs.List.{filter}
 use Rattle.gt_core.specs.Task.{Task}
@@ -11,6 +11,7 @@ use Rattle.grounding_defs.specs.Sorted.{atom_less, IsSorted}
 use Rattle.grounding_defs.specs.Grounded.{IsGrounded}
 use Rattle.grounding_defs.specs.Simplify.{task_of}
 use Rattle.grounding_defs.specs.Found.{is_constant, facts_of, actions_of, grounded_by}
+use Rattle.gt_core.specs.Limits.{most_actions}
 use Rattle.grounding_defs.specs.Laws.{LeastIsGrounded}
 use Rattle.grounder.specs.own.Found.{AreFound}
 use Rattle.grounder.specs.own.Putting.{HasExactly}
@@ -41,5 +42,5 @@ pub with_task : (p : Parts) (facts : List Atom) (calls : List Call) (task : Task
 with_task p facts calls task is e = subst (λ (t : Task). IsGrounded p (record { facts = facts; calls = calls; task = t })) (sym e) is
 
 -- the count of the actions that were listed
-pub few_actions : (limit : ℕ) (q : Parts) (facts : List Atom) (kept calls : List Call) → calls ≡ actions_of q facts kept → length (actions_of q facts kept) ≤ limit → length calls ≤ limit
-few_actions limit q facts kept calls same few = subst (λ (cs : List Call). length cs ≤ limit) (sym same) few
+pub few_actions : (q : Parts) (facts : List Atom) (kept calls : List Call) → calls ≡ actions_of q facts kept → length (actions_of q facts kept) ≤ most_actions → length calls ≤ most_actions
+few_actions q facts kept calls same few = subst (λ (cs : List Call). length cs ≤ most_actions) (sym same) few

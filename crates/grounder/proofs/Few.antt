@@ -20,13 +20,13 @@ use Rattle.schema_domains.proofs.published.Listed.{fits_listed}
 use Rattle.grounder.specs.own.Bindings.{size}
 use Rattle.grounder.specs.own.Few.{HasFewTuples, HasFewOf, HasFew, HaveFew}
 use Rattle.grounder.proofs.Saturated.{saturated_is}
-use Rattle.grounding_defs.specs.Limits.{most_wide_tuples}
+use Rattle.grounding_defs.specs.Limits.{most_tuples}
 
 pub size_of_types : (p : Parts) (over : List ℕ) → size (map (fitting p) over) ≡ product_of p over
 size_of_types p [] = refl
 size_of_types p (kind ∷ over) = ap (λ (n : ℕ). length (fitting p kind) * n) (size_of_types p over)
 
-pub few_fits : (count n : ℕ) → count ≡ saturated n → n ≤ most_wide_tuples → count ≡ n
+pub few_fits : (count n : ℕ) → count ≡ saturated n → n ≤ most_tuples → count ≡ n
 few_fits count n e few = omega (arith, e, saturated_is n)
 
 pub each_read : {X : Type 0} (P : X → Type 0) (xs : List X) (i : ℕ) (x : X) → i < length xs → x ≡ get_or xs i x → AllByRecursion P xs → P x
@@ -61,7 +61,7 @@ among_sum f (y ∷ xs) x (inl e) = omega (arith, ap f e, sum_by-cons f y xs)
 among_sum f (y ∷ xs) x (inr a) = let rest = among_sum f xs x a in omega (arith, rest, sum_by-cons f y xs)
 
 -- each effect of a schema with a call
-few_effects : (p : Parts) (number : ℕ) (schema : Schema) (t : List ℕ) → tuples_in p ≤ most_wide_tuples → slice_get p.schemas number ≡ Some schema → all_fit p schema.parameters t ≡ true
+few_effects : (p : Parts) (number : ℕ) (schema : Schema) (t : List ℕ) → tuples_in p ≤ most_tuples → slice_get p.schemas number ≡ Some schema → all_fit p schema.parameters t ≡ true
     → AllByRecursion (HasFewTuples p) schema.effects
 few_effects p number schema t few at fit = each_from (HasFewTuples p) schema.effects (λ e among.
     let one = some_fit p schema.parameters t fit in
@@ -69,14 +69,14 @@ few_effects p number schema t few at fit = each_from (HasFewTuples p) schema.eff
     let effects : ℕ = sum_by (λ e. effect_tuples p e.over) schema.effects in
     let here : effect_tuples p e.over ≤ effects = among_sum (λ e. effect_tuples p e.over) schema.effects e among in
     let more : 1 * (1 + effects) ≤ product_of p schema.parameters * (1 + effects) = mul-le-mul_right (1 + effects) one in
-    at_least p e.over most_wide_tuples (omega (arith, here, more, within)) (omega arith))
+    at_least p e.over most_tuples (omega (arith, here, more, within)) (omega arith))
 
-few_of : (p : Parts) (number : ℕ) (o : Option Schema) (t : List ℕ) → tuples_in p ≤ most_wide_tuples → slice_get p.schemas number ≡ o → is_call_of p o t ≡ true → HasFewOf p o
+few_of : (p : Parts) (number : ℕ) (o : Option Schema) (t : List ℕ) → tuples_in p ≤ most_tuples → slice_get p.schemas number ≡ o → is_call_of p o t ≡ true → HasFewOf p o
 few_of p number None t few at is = tt
 few_of p number (Some schema) t few at is = few_effects p number schema t few at is
 
 -- the kept calls have few tuples
-pub kept_few : (p : Parts) (kept : List Call) → tuples_in p ≤ most_wide_tuples → ((c : Call) → IsTrue (is_listed c kept) → IsKept p c) → HaveFew p kept
+pub kept_few : (p : Parts) (kept : List Call) → tuples_in p ≤ most_tuples → ((c : Call) → IsTrue (is_listed c kept) → IsKept p c) → HaveFew p kept
 kept_few p kept few are = each_from (HasFew p) kept (λ c among.
     few_of p c.schema (slice_get p.schemas c.schema) c.objects few refl (kept_is_call p c (are c (among_call c kept among))))
 

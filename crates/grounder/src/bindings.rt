@@ -2,7 +2,7 @@
 ghost use Rattle.std.specs.Prelude.{◌≡◌, ◌<◌, ◌≤◌, ◌++◌, IfOk, OnOk, map};
 ghost use Rattle.pd_model.specs.Fits.{fitting};
 ghost use Rattle.grounding_defs.specs.Tuples.{product_of, saturated};
-ghost use Rattle.grounding_defs.specs.Limits.{most_wide_tuples};
+ghost use Rattle.grounding_defs.specs.Limits.{most_tuples};
 ghost use Rattle.grounder.specs.own.Bindings.{size, tuple_at, AreBindings};
 
 use pd_model::{Memory, Objects};
@@ -40,7 +40,7 @@ fn size_of(domains: &[Objects]) -> u64
 
 /// The bindings of variables of these types.
 pub(crate) fn bindings_of(alloc: Global, lists: &Domains, over: &[u32]) -> Result<Bindings, Memory>
-    requires { product_of lists.now over.now ≤ most_wide_tuples }
+    requires { product_of lists.now over.now ≤ most_tuples }
     ensures { IfOk result (λ b. AreBindings lists.now over.now b) }
 {
     let domains = domains_of(alloc, lists, over)?;

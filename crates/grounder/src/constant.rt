@@ -4,7 +4,7 @@ ghost use Rattle.std.specs.List.{list_any, filter};
 ghost use Rattle.pd_model.specs.State.{is_in};
 ghost use Rattle.grounding_defs.specs.Instance.{change_of, changes_of, instance_of};
 ghost use Rattle.grounding_defs.specs.Found.{deletes, is_constant};
-ghost use Rattle.grounding_defs.specs.Limits.{most_wide_tuples};
+ghost use Rattle.grounding_defs.specs.Limits.{most_tuples};
 ghost use Rattle.grounding_defs.specs.Tuples.{tuples_in};
 ghost use Rattle.reachability.specs.Derived.{call_with};
 ghost use Rattle.grounder.specs.own.Found.{AreFound};
@@ -124,7 +124,7 @@ pub(crate) struct Found {
 
 /// What the search finds of a task that is within the limit on tuples.
 pub(crate) fn found_in(alloc: Global, domains: &Domains) -> Result<Found, Memory>
-    requires { tuples_in domains.now ≤ most_wide_tuples }
+    requires { tuples_in domains.now ≤ most_tuples }
     ensures { IfOk result (λ found. AreFound domains.now found.facts found.kept) }
 {
     let reached = reach(alloc, domains)?;

@@ -1,8 +1,7 @@
 //! The grounder: from a task as it is written to one over numbered facts and actions.
 //!
 //! `tuples` counts what there is to look at, `constant` finds the facts, `actions` the actions, `simplify` and
-//! `effects` make the numbered task of them, and `wide` puts it together, within the limits that it is given (`bounds`). `grounded` is the same
-//! within the limits of what is encoded.
+//! `effects` make the numbered task of them, and `grounded` puts it together.
 //!
 //! The initial atoms less those that possible deletes name are the constant ones, the other reachable atoms the facts; the kept calls whose
 //! precondition wants no constant atom to be false are the actions. There is no list of all instances: the tuples of a `forall` are numbered,
@@ -13,20 +12,14 @@
 
 mod actions;
 mod bindings;
-mod bounds;
 mod conditional;
 mod constant;
 mod effects;
-mod error;
 mod grounded;
 mod known;
 mod literals;
 mod places;
 mod simplify;
 mod tuples;
-mod wide;
 
-pub use bounds::Bounds;
-pub use error::GroundError;
-pub use grounded::{Grounded, ground};
-pub use wide::{WideGrounded, ground_within};
+pub use grounded::{GroundError, Grounded, ground};

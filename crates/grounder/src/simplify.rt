@@ -4,7 +4,7 @@ ghost use Rattle.grounding_defs.specs.Instance.{literal_of, literals_of};
 ghost use Rattle.grounding_defs.specs.Simplify.{number_of, simplified};
 ghost use Rattle.grounder.specs.own.Known.{IsKnown};
 ghost use Rattle.grounder.specs.own.Putting.{add_literal};
-ghost use Rattle.gt_core.specs.Limits.{most_wide_facts};
+ghost use Rattle.gt_core.specs.Limits.{most_facts};
 
 use crate::known::Known;
 use crate::places::place_in;
@@ -13,7 +13,7 @@ use pd_model::{Cond, Memory};
 
 /// The fact literal of the fact at a place: it says that the fact is true, or that it is false.
 pub(crate) fn fact_literal(place: usize, want: bool) -> u32
-    requires { place < most_wide_facts }
+    requires { place < most_facts }
     ensures { result ≡ (if want then 2 * place else 2 * place + 1) }
 {
     let place = place as u32;

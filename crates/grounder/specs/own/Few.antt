@@ -6,11 +6,11 @@ use Rattle.pd_model.specs.declared.effects.Effect.{Effect}
 use Rattle.pd_model.specs.declared.parts.Parts.{Parts}
 use Rattle.pd_model.specs.declared.schemas.Schema.{Schema}
 use Rattle.grounding_defs.specs.Tuples.{product_of}
-use Rattle.grounding_defs.specs.Limits.{most_wide_tuples}
+use Rattle.grounding_defs.specs.Limits.{most_tuples}
 
 -- the `forall` of an effect has at most as many tuples as the limit says
 abbrev pub HasFewTuples : Parts → Effect → Type 0
-HasFewTuples p e = product_of p e.over ≤ most_wide_tuples
+HasFewTuples p e = product_of p e.over ≤ most_tuples
 
 -- each effect of a schema has, where there is such a schema
 abbrev pub HasFewOf : Parts → Option Schema → Type 0

@@ -2,7 +2,7 @@
 use Rattle.std.specs.Prelude.{List}
 use Rattle.pd_model.specs.declared.atoms.Atom.{Atom}
 use Rattle.grounding_defs.specs.Grounded.{Grounded}
-use Rattle.grounder.specs.declared.wide.Numbered.{Numbered}
+use Rattle.grounder.specs.declared.grounded.Numbered.{Numbered}
 
 -- these facts, with the calls and the task that were made of them
 abbrev pub grounded_with : List Atom → Numbered → Grounded
