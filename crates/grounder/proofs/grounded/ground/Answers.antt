@@ -1,7 +1,7 @@
 use Rattle.std.proofs.Common.{arith, Ok, Err, Result}
 use Rattle.std.specs.Prelude.{◌≤◌, IfOk}
 use Rattle.grounding_defs.specs.Grounded.{Grounded}
-use Rattle.grounding_defs.specs.Limits.{most_tuples, race_bounds}
+use Rattle.grounding_defs.specs.Limits.{most_tuples}
 use Rattle.grounding_defs.specs.Tuples.{tuples_in}
 use Rattle.grounder.specs.declared.grounded.GroundError.{GroundError}
 use Rattle.grounder.proofs.Saturated.{few_saturated}
@@ -23,10 +23,10 @@ ground_over-requires c =
     omega (arith, few, fewer)
 
 pub returns-clause-grounded : goal.returns-clause-grounded
-returns-clause-grounded c = if_ok c.ground_over.result _ _ (thinned.grounded c.args.p.now c.in_ok-domains.domains c.in_ok-domains.ensures) c.ground_over.ensures.grounded
+returns-clause-grounded c = if_ok c.ground_over.result _ _ (thinned.grounded c.args.p.now c.in_ok-domains.domains c.in_ok-domains.ensures (within_limit (goal.at.returns-clause-grounded c).After-ground_over)) c.ground_over.ensures.grounded
 
 pub returns-clause-within : goal.returns-clause-within
-returns-clause-within c = if_ok c.ground_over.result _ _ (thinned.within race_bounds c.args.p.now c.in_ok-domains.domains c.in_ok-domains.ensures (within_limit (goal.at.returns-clause-within c).After-ground_over)) c.ground_over.ensures.within
+returns-clause-within c = if_ok c.ground_over.result _ _ (thinned.within c.args.p.now c.in_ok-domains.domains c.in_ok-domains.ensures (within_limit (goal.at.returns-clause-within c).After-ground_over)) c.ground_over.ensures.within
 
 pub returns-clause-tuples : goal.returns-clause-tuples
 returns-clause-tuples c = λ n e.
@@ -36,10 +36,10 @@ returns-clause-tuples c = λ n e.
     absurd (omega (arith, few, fewer, over))
 
 pub returns-clause-facts : goal.returns-clause-facts
-returns-clause-facts c = λ n e. thinned.over_facts race_bounds c.args.p.now c.in_ok-domains.domains c.in_ok-domains.ensures (within_limit (goal.at.returns-clause-facts c).After-ground_over) n (c.ground_over.ensures.facts n e)
+returns-clause-facts c = λ n e. thinned.over_facts c.args.p.now c.in_ok-domains.domains c.in_ok-domains.ensures (within_limit (goal.at.returns-clause-facts c).After-ground_over) n (c.ground_over.ensures.facts n e)
 
 pub returns-clause-actions : goal.returns-clause-actions
-returns-clause-actions c = λ n e. thinned.over_actions race_bounds c.args.p.now c.in_ok-domains.domains c.in_ok-domains.ensures (within_limit (goal.at.returns-clause-actions c).After-ground_over) n (c.ground_over.ensures.actions n e)
+returns-clause-actions c = λ n e. thinned.over_actions c.args.p.now c.in_ok-domains.domains c.in_ok-domains.ensures (within_limit (goal.at.returns-clause-actions c).After-ground_over) n (c.ground_over.ensures.actions n e)
 
 pub returns-clause-effects : goal.returns-clause-effects
-returns-clause-effects c = λ n e. thinned.over_effects race_bounds c.args.p.now c.in_ok-domains.domains c.in_ok-domains.ensures (within_limit (goal.at.returns-clause-effects c).After-ground_over) n (c.ground_over.ensures.effects n e)
+returns-clause-effects c = λ n e. thinned.over_effects c.args.p.now c.in_ok-domains.domains c.in_ok-domains.ensures (within_limit (goal.at.returns-clause-effects c).After-ground_over) n (c.ground_over.ensures.effects n e)
