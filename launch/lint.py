@@ -11,13 +11,19 @@ can make true; an action that can never be executed; a predicate that is never u
 effect that adds and deletes one atom; a parameter that nothing uses; a requirement that there is nowhere in PDDL. A missing :goal is a refusal, of which a warning is printed too. Past a limit of the planner what is reached is not known, and
 only what the texts tell is warned of.
 
+PDDL that plan does not take and that solve and plain rewrite is warned of too, with its places; of such files, but for costs, that is
+all, and what their names tell.
+
 Statuses: 0 no warning; 1 some; 3, 5 the planner refuses a file or cannot read it, and its line is printed; 4 a file is too
 long; 7 the words are not taken; 70 the planner does not run. With --quiet only warnings are printed, and the status is 0.
 """
+import os
+import pathlib
 import sys
+import tempfile
 
 sys.dont_write_bytecode = True
-from messages.text import meant
+from messages.text import called, meant
 from pddl import Action, File, Ground, Kinds, Literal, NoTree, listed, literals, typed
 
 
@@ -27,6 +33,7 @@ REQUIREMENTS = frozenset(
     ":durative-actions :duration-inequalities :continuous-effects :derived-predicates :timed-initial-literals :preferences "
     ":constraints :action-costs :goal-utilities".split()
 )
+NEVER = f"the goal is never reached, as {called('never')} can show"
 
 
 class Task(Kinds):
@@ -96,9 +103,9 @@ def of_goal(task, ground):
             continue
         word = "adds" if wanted else "deletes"
         if atom.head() not in (added if wanted else deleted):
-            yield task.problem, atom.at, f"no action {word} {atom.text()}: the goal is never reached"
+            yield task.problem, atom.at, f"no action {word} {atom.text()}: {NEVER}"
         elif ground.is_known and atom.text() not in ground.facts:
-            yield task.problem, atom.at, f"no action that can be executed {word} {atom.text()}: the goal is never reached"
+            yield task.problem, atom.at, f"no action that can be executed {word} {atom.text()}: {NEVER}"
 
 
 def held(task):
@@ -166,10 +173,49 @@ def kind_of(effect):
 
 def warnings(task, ground):
     """All warnings as lines, by file and place."""
-    found = [*of_names(task), *of_types(task), *of_goal(task, ground), *of_actions(task, ground), *of_effects(task)]
-    found += of_requirements(task)
+    return as_lines(task, [*of_names(task), *of_types(task), *of_goal(task, ground), *of_actions(task, ground), *of_effects(task),
+                           *of_requirements(task)])
+
+
+def as_lines(task, found):
+    """Warnings as lines, by file and place."""
     found.sort(key=lambda it: (it[0] is task.problem, it[1]))
     return [f"{file.place(at)}: warning: {text}" for file, at, text in found]
+
+
+def of_rewritten(words):
+    """The warnings of files that the planner does not take, but that can be rewritten; None where they cannot."""
+    sys.path.append(os.path.join(os.path.dirname(os.path.abspath(__file__)), "plain"))
+    from plainly import Plain, Refused
+    from rewrite import TooMany
+    from without_costs import OtherForm
+    try:
+        it = Plain(*words)
+    except (Refused, OtherForm, TooMany, NoTree, OSError, LookupError, AttributeError):
+        return None
+    kinds = {}
+    for line in it.told:
+        place, what, *_ = line.split(": ")
+        kinds.setdefault(what, []).append(place)
+    lines = [f"{where[0]}: warning: plan does not take this ({what}{f', {len(where)} places' if len(where) > 1 else ''}): "
+             f"{called('solve')} and {called('plain')} rewrite it" for what, where in kinds.items()]
+    files = list(map(File, words))
+    if it.rewritten is not None:
+        return lines + as_lines(Names(*files), [*of_names(Names(*files)), *of_requirements(Names(*files))]) if it.told else None
+    with tempfile.TemporaryDirectory() as room:
+        paths = [os.path.join(room, name) for name in ("domain", "problem")]
+        for path, file, text in zip(paths, files, it.texts):
+            pathlib.Path(path).write_bytes(text.encode("latin-1"))
+            file.replace(text)
+        ground = Ground(*paths)
+    return lines + warnings(Task(*files), ground) if it.told and ground.status in (0, 4) else None
+
+
+class Names:
+    """The names of two files, without what stands in actions and in the goal."""
+
+    def __init__(self, domain, problem):
+        self.domain, self.problem = domain, problem
 
 
 def of_refused(ground, problem):
@@ -194,13 +240,14 @@ def main(words):
     except OSError as fault:
         print(f"lint: the planner does not run: {fault}", file=sys.stderr)
         return 0 if is_quiet else 70
-    if ground.status not in (0, 4) or ground.text.startswith("; limit file "):
+    lines = of_rewritten(words) if ground.text.startswith(("; refused unsupported ", "; refused duplicate ")) and not is_quiet else None
+    if lines is None and (ground.status not in (0, 4) or ground.text.startswith("; limit file ")):
         of_refused(ground, words[1])
         if is_quiet:
             return 0
         ground.tell()
         return ground.status
-    lines = warnings(Task(*map(File, words)), ground)
+    lines = warnings(Task(*map(File, words)), ground) if lines is None else lines
     for line in lines:
         print(line)
     if is_quiet:

@@ -135,7 +135,7 @@ class Costs:
                 self.values.add(which.text())
                 self.cut(self.problem, it)
         if self.increases and not has_total:
-            raise OtherForm(self.domain, self.increases[0][0], "costs are increased, and (= (total-cost) 0) is not in :init")
+            raise OtherForm(self.domain, self.increases[0][0], "costs are increased, and :init has no (= (total-cost) 0): write it there")
 
     def read_metric(self):
         """Takes the metric away."""

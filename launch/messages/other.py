@@ -1,7 +1,11 @@
 """Faults of kinds `syntax`, `deep` and `unsupported`."""
 import re
 
+from messages.text import called, shown
+
 BINARY = re.compile(r"[^\t\n\r -~]")
+KEYS = (":parameters", ":precondition", ":effect")
+ALL_SECTIONS = (":requirements", ":types", ":constants", ":predicates", ":functions", ":action", ":domain", ":objects", ":init", ":goal", ":metric")
 TIMED = re.compile(r"[0-9]+(\.[0-9]+)?:?\Z")
 
 
@@ -23,7 +27,7 @@ def of_syntax(source, at, which):
     depth, ended = lists_before(source.text, at)
     byte = of_byte(source.text, at)
     if at_end:
-        return "the file ends inside a list, which is not closed" if depth else "the file has no list"
+        return of_end(source) if depth else "the file has no list"
     if byte:
         return byte
     if which == "plan":
@@ -102,22 +106,38 @@ def of_call(text, at, depth):
     return "this byte may stand in a comment alone"
 
 
-def open_notes(source):
-    """Where the outermost list that is not closed begins, and the first section that begins inside of another list."""
-    opened, inner = [], None
-    for found in re.finditer(r";[^\n]*|[()]", source.text):
-        if found[0] == "(":
-            if len(opened) >= 2 and source.text[found.end() : found.end() + 1] == ":" and inner is None:
-                inner = found.start(), opened[1]
-            opened.append(found.start())
-        elif found[0] == ")" and opened:
+def of_end(source):
+    """What is not closed where the file ends."""
+    at, _, _ = not_closed(source)
+    begins = shown(source.text[at : at + 60].partition("\n")[0].strip())
+    return f"the file ends inside a list, which is not closed: '{begins}' in {source.where(at)}"
+
+
+def not_closed(source):
+    """The list that was most likely not closed, and what stands in it that belongs into no such list, with its place: the first key of
+    an action that does not stand in one, or the first section in another one. Nothing of that: the innermost list at the file's end."""
+    opened = []
+    for found in re.finditer(r";[^\n]*|[()]|(?<=[\s(])(:[\w-]+)", source.text):
+        word, at = found[0].lower(), found.start()
+        if word == "(":
+            opened.append(at)
+        elif word == ")" and opened:
             opened.pop()
-    if not opened:
+        elif word in KEYS and len(opened) > 2:
+            return opened[-1], word, at
+        elif word in ALL_SECTIONS and len(opened) > 2 and source.text[at - 1] == "(":
+            return opened[-2], f"({word}", at - 1
+    return opened[-1], None, len(source.text)
+
+
+def open_notes(source):
+    """Where the list that is not closed begins, and what stands in it that should not."""
+    if lists_before(source.text, len(source.text))[0] == 0:
         return
-    yield opened[0], "the outermost list that is open begins here"
-    if inner:
-        where = source.where(inner[1])
-        yield inner[0], f"this section begins inside of the list of {where}: is that one to be closed before?"
+    begin, word, at = not_closed(source)
+    yield begin, "the list that begins here is not closed"
+    if word:
+        yield at, f"'{word}' stands inside of it: is it to be closed before?"
 
 
 def open_call(source, at):
@@ -127,7 +147,8 @@ def open_call(source, at):
         yield begin, "the call that begins here is not closed"
 
 
-OR_PLAIN = ", or let plain rewrite both files"
+OR_PLAIN = f", or call {called('solve')}, which rewrites it by itself ({called('plain')} writes the files without it)"
+COSTS = f"where these are action costs alone, {called('solve')} leaves them out by itself, and {called('plain')} and without-costs write the files without them"
 NUMBERS = ("increase", "decrease", "assign", "scale-up", "scale-down", ":metric", ":functions")
 COMPARES = ("<", ">", "<=", ">=")
 
@@ -137,10 +158,10 @@ def of_unsupported(spot):
     word = spot.item.word if spot.item.word is not None else spot.item.head()
     section = spot.path[1].head() if len(spot.path) > 1 else ""
     if word in NUMBERS:
-        return f"'{word}' is not taken: where these are action costs alone, plain and without-costs take them away"
+        return f"'{word}' is not taken: {COSTS}"
     if word == "=":
         what = spot.item.items[1].text() if len(spot.item.items or []) > 1 else word
-        return f"{what} is a numeric fluent, and numbers are not taken: where these are action costs alone, plain and without-costs take them away"
+        return f"{what} is a numeric fluent, and numbers are not taken: {COSTS}"
     if word in COMPARES:
         return "numbers are not taken, and so are not compared"
     if word == ":durative-action":

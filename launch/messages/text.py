@@ -7,6 +7,12 @@ import sys
 from pddl import NoTree, line_starts, read_tree
 
 WIDE, BEFORE, PART = 100, 60, 130
+ROOT = pathlib.Path(__file__).resolve().parents[2]
+
+
+def called(command):
+    """How a command is called here: in a checkout, or installed."""
+    return f"{'./' if (ROOT / 'crates').is_dir() else ''}dokyreva {command}"
 
 
 class Source:

@@ -70,7 +70,7 @@ def tell_refused(words, commands, called):
             launcher_says(f"there is no command {name}")
         for it in unknown_options(words[1:]):
             launcher_says(it)
-        launcher_says(f"the commands are {', '.join(commands)}, help; {called} COMMAND --help tells the words of one")
+        launcher_says(f"all commands here are {', '.join(commands)}, help; {called} COMMAND --help tells the words of one")
         return
     command = Command(name)
     found = list(faults(command, words[1:]))

@@ -29,7 +29,7 @@ class Call:
         self.path, self.processes = os.environ.get("PATH", os.defpath), PROCESSES
         self.solver_name, self.planner_words = None, None
         self.rooms, self.disk, self.given, self.signal, self.is_short = None, None, given, None, False
-        self.plain, self.certificate = None, None
+        self.plain, self.certificate, self.is_told = None, None, False
 
     def take_files(self, domain, problem):
         """Reads both files once, and puts what all programs read where no outside program is told of."""

@@ -51,7 +51,7 @@ def read(words, count, path):
             continue
         name, equals, text = word.partition("=")
         if name not in options:
-            raise Usage(f"there is no option {name}")
+            raise Usage(f"there is no option {name}: the options are {', '.join(options)}")
         option = options[name]
         if key(name) in given:
             raise Usage(f"{name} stands twice")

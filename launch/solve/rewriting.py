@@ -19,7 +19,8 @@ def try_plain(call):
     try:
         it = Plain(call.domain, call.problem)
     except (Refused, OtherForm, TooMany) as why:
-        call.say("it was not rewritten:", as_told(call, str(why)))
+        call.say("plan does not take these files, and they cannot be rewritten:", as_told(call, str(why)))
+        call.is_told = True
         return False
     except (NoTree, OSError, LookupError, AttributeError):
         return False
@@ -27,7 +28,8 @@ def try_plain(call):
         return False
     wish = call.known.wish
     if it.has_auxiliaries() and (wish.least or wish.steps is not None or wish.actions is not None):
-        call.say("it was not rewritten: auxiliary calls would be counted; leave --least, --max-steps and --max-actions out")
+        call.say("the files were not rewritten: auxiliary calls would be counted; leave --least, --max-steps and --max-actions out")
+        call.is_told = True
         return False
     call.plain, call.refusal = it, None
     call.domain_text, call.problem_text = (text.encode("latin-1") for text in it.texts)

@@ -99,7 +99,7 @@ def end(call, driver, there, target, root):
     except OSError as error:
         call.say(f"the plan could not be written to {target.path}: {error.strerror}")
         status = 6
-    if status in (3, 4, 5) and (call.refusal or call.known.limits):
+    if status in (3, 4, 5) and (call.refusal or call.known.limits) and not call.is_told:
         call.tell_place(call.refusal[1] if call.refusal else next(iter(call.known.limits.values())))
     line = report.advice(call, driver, there) if status in (2, 4, 8, 124) else None
     if line:

@@ -4,6 +4,7 @@ import re
 
 HORIZON = re.compile(r"; horizon (\d+) (refuted|plan|open|dropped)(?: conflicts (\d+))?\Z")
 STEPS = re.compile(r"; plan of (\d+) steps with (\d+) actions\Z")
+STEP = re.compile(r"; step \d+\Z")
 ACTIONS = re.compile(r"; plan of (\d+) actions(, the least)?\Z")
 STATES = re.compile(r"; states (\d+) of (\d+)\Z")
 LIMIT = re.compile(r"; limit (\w+)(?: .*)?\Z")
@@ -44,9 +45,27 @@ def report(output):
             states = int(found[1])
         elif LIMIT.match(line):
             limit = line
-    plan = lines[begun:] if begun is not None else []
+    plan, steps = without_empty(lines[begun:] if begun is not None else [], steps)
     calls = [line for line in plan if line.startswith("(")]
     return Report(lines, horizons, plan, calls, steps, least, states, limit)
+
+
+def without_empty(plan, steps):
+    """The lines of a plan, and its number of steps, without the steps that have no action: what is left is a plan in so many steps."""
+    parts = []
+    for line in plan:
+        if STEP.match(line):
+            parts.append([])
+        elif parts:
+            parts[-1].append(line)
+    full = [it for it in parts if any(line.startswith("(") for line in it)]
+    if len(full) == len(parts):
+        return plan, steps
+    left, calls = len(parts) - len(full), sum(line.startswith("(") for line in plan)
+    lines = [f"; plan of {len(full)} steps with {calls} actions", f"; left out: {left} {'step' if left == 1 else 'steps'} without an action"]
+    for number, part in enumerate(full, 1):
+        lines += [f"; step {number}", *part]
+    return lines, len(full)
 
 
 def calls_of(text):

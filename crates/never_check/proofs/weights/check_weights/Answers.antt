@@ -1,21 +1,17 @@
-use Rattle.std.proofs.Common.{◌∙◌, ap, sym, subst}
+use Rattle.std.proofs.Common.{◌*◌, ◌∙◌, ℕ, ap, sym, subst}
+use Rattle.gt_core.specs.Clauses.{KnownClauses}
 use Rattle.never_check.specs.Trail.{Reached}
-use Rattle.never_check.specs.Verdicts.{IsBase}
-use Rattle.never_check.specs.declared.rules.Rules.{Rules}
-use Rattle.never_check.proofs.Grown.{when_false}
+use Rattle.never_check.specs.WeightsVerdicts.{IsWeighing}
+use Rattle.never_check.proofs.Grown.{none_at, some_at}
 use Rattle.never_check.proofs.Least.{went_back}
-use Rattle.never_check.proofs.Forwarding.{begun_base}
+use Rattle.never_check.proofs.Weighing.{weighed_plain}
 use Rattle.never_check.proofs.weights.check_weights.Goals as goal
 
-pub goal_passes-requires-clause-base : goal.goal_passes-requires-clause-base
-goal_passes-requires-clause-base c =
-    let rules : Rules = record { known = c.args.known; clauses = record { ref_ptr = _; now = c.new-none.result }; uses = c.deref.result } in
-    let facts = c.in_ok-begin.ensures.facts ∙ ap (λ (r : Reached). r.facts) c.in_ok-trail.ensures ∙ c.facts-facts.ensures.facts ∙ sym c.requires.facts in
-    begun_base rules c.begin.new.trail facts (when_false c.in_ok-begin.field-0 _ c.if-branch.false c.in_ok-begin.ensures.told)
+pub goal_passes-requires-clause-weighing : goal.goal_passes-requires-clause-weighing
+goal_passes-requires-clause-weighing c = weighed_plain c.rules-rules.result c.args.known.now c.rules-rules.ensures c.args.weights.now c.in-Some.trail c.args.task.now.facts c.requires.facts c.requires.over c.requires.total (some_at _ _ c.in_ok-begun.field-0 c.in-Some.trail c.in-Some.is c.in_ok-begun.ensures)
 
-pub first_raising-requires-clause-base : goal.first_raising-requires-clause-base
-first_raising-requires-clause-base c =
-    let rules : Rules = record { known = c.args.known; clauses = record { ref_ptr = _; now = c.new-none.result }; uses = c.deref.result } in
-    let facts = c.in_ok-begin.ensures.facts ∙ ap (λ (r : Reached). r.facts) c.in_ok-trail.ensures ∙ c.facts-facts.ensures.facts ∙ sym c.requires.facts in
-    let base = begun_base rules c.begin.new.trail facts (when_false c.in_ok-begin.field-0 _ c.if-branch.false c.in_ok-begin.ensures.told) in
-    subst (λ (r : Reached). IsBase rules r) (sym (went_back c.begin.new.trail c.goal_passes.new.trail c.go_back.new.self c.len-from.result c.go_back.ensures c.in_ok-goal_passes.ensures.facts c.len-from.ensures.is c.in_ok-goal_passes.ensures.front)) base
+pub first_raising-requires-clause-weighing : goal.first_raising-requires-clause-weighing
+first_raising-requires-clause-weighing c =
+    subst (λ (r : Reached). IsWeighing c.rules-rules.result c.args.weights.now r)
+    (sym (went_back c.in-Some.trail c.goal_passes.new.trail c.go_back.new.self c.len-from.result c.go_back.ensures c.in_ok-goal_passes.ensures.facts c.len-from.ensures.is c.in_ok-goal_passes.ensures.front))
+    (weighed_plain c.rules-rules.result c.args.known.now c.rules-rules.ensures c.args.weights.now c.in-Some.trail c.args.task.now.facts c.requires.facts c.requires.over c.requires.total (some_at _ _ c.in_ok-begun.field-0 c.in-Some.trail c.in-Some.is c.in_ok-begun.ensures))
