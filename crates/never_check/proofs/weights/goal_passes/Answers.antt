@@ -29,6 +29,6 @@ returns-clause-told c =
     let told = begun_told rules task.goal c.goal.result.now c.in_ok-refutes.field-0 c.args.trail.now c.refutes.new.trail c.requires.weighing.base c.in_ok-refutes.ensures.facts c.goal.ensures c.in_ok-refutes.ensures.told in
     let least = when_false c.in_ok-refutes.field-0 _ c.if-branch.false told in
     let weights = c.args.weights.now in
-    lt_told c.compared.result.0 c.compared.result.1
-    (λ lt. greater rules c.requires.weighing.none weights task c.refutes.new.trail least (rw (sym c.compared.ensures.initial, sym c.compared.ensures.reached) lt))
-    (λ nay. not_greater rules c.requires.weighing.none weights task c.refutes.new.trail least (sym c.hopeless.ensures ∙ c.if-hopeless.false) (λ lt. nay (rw (c.compared.ensures.initial, c.compared.ensures.reached) lt))) _ refl
+    lt_told c.compared-sums.result.0 c.compared-sums.result.1
+    (λ lt. greater rules c.requires.weighing.none weights task c.refutes.new.trail least (rw (sym c.compared-sums.ensures.initial, sym c.compared-sums.ensures.reached) lt))
+    (λ nay. not_greater rules c.requires.weighing.none weights task c.refutes.new.trail least (sym c.hopeless.ensures ∙ c.if-hopeless.false) (λ lt. nay (rw (c.compared-sums.ensures.initial, c.compared-sums.ensures.reached) lt))) _ refl
