@@ -1,5 +1,5 @@
 -- Small tasks, grounded by computation from the definitions alone.
-use Rattle.std.proofs.Common.{◌-◌, ℕ, List, [], ◌∷◌}
+use Rattle.std.proofs.Common.{ℕ, List, [], ◌∷◌}
 use Rattle.gt_core.specs.Task.{Effect, Action}
 use Rattle.grounding_defs.specs.Grounded.{Grounded}
 use Rattle.grounding_defs.specs.Found.{grounded_from}

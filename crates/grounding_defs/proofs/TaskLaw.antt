@@ -4,7 +4,7 @@ use Rattle.std.specs.Prelude.{nat_lt, filter_map}
 use Rattle.std.specs.List.{list_all, filter, cons_option, AllByRecursion}
 use Rattle.std.proofs.lemmas.Bool.{and_parts, and_from, lt-ltb, le-leb, eq-eqb, ltb-true}
 use Rattle.std.proofs.lemmas.List.{length-map}
-use Rattle.gt_core.specs.Lawful.{are_rising, is_literal_set, effect_less, follows, are_effects, is_action, is_task}
+use Rattle.gt_core.specs.Lawful.{are_rising, is_literal_set, effect_less, follows, are_effects, is_action, is_within}
 use Rattle.gt_core.specs.Task.{Effect}
 use Rattle.gt_core.proofs.published.Basics.{each_at, each_from}
 use Rattle.pd_model.specs.State.{is_in}
@@ -16,13 +16,12 @@ use Rattle.grounding_defs.specs.Sorted.{IsSorted, sorted_set}
 use Rattle.grounding_defs.specs.Simplify.{fact_literal, number_of, simplified, is_left, effect_of, action_of}
 use Rattle.grounding_defs.specs.Grounded.{Grounded}
 use Rattle.grounding_defs.specs.Found.{grounded_by}
-use Rattle.grounding_defs.specs.Limits.{IsWithin}
-use Rattle.grounding_defs.specs.Laws.{GroundedIsTask}
+use Rattle.grounding_defs.specs.Limits.{Bounds, IsBounded, race_bounds}
+use Rattle.grounding_defs.specs.Laws.{GroundedIsTask, GroundedIsWithin}
 use Rattle.grounding_defs.proofs.published.Orders.{numbers, effects}
 use Rattle.grounding_defs.proofs.published.Sets.{each_sorted, is_sorted}
 use Rattle.grounding_defs.proofs.published.Places.{literal_below}
 use Rattle.grounding_defs.proofs.Whole.{made}
-use Rattle.gt_core.specs.Limits.{most_facts, most_actions, most_conditional}
 
 -- sorted numbers within bounds rise
 rising : (top low : ℕ) (ls : List ℕ) → AllByRecursion (λ l. low ≤ l) ls → AllByRecursion (λ l. l < top) ls → IsSorted nat_lt ls → are_rising top low ls ≡ true
@@ -89,16 +88,19 @@ actions_are : (p : Parts) (facts : List Atom) (calls : List Call) → list_all (
 actions_are p facts [] = refl
 actions_are p facts (c ∷ calls) = and_from _ _ (action_is p facts (instance_of p c)) (actions_are p facts calls)
 
-task_is : (p : Parts) (facts : List Atom) (calls : List Call) → IsWithin p (grounded_by p facts calls) → is_task (grounded_by p facts calls).task ≡ true
-task_is p facts calls within =
-    let long : length (map (λ c. action_of p facts (instance_of p c)) calls) ≤ most_actions = subst (λ (n : ℕ). n ≤ most_actions) (sym (length-map calls (λ c. action_of p facts (instance_of p c)))) within.actions in
-    and_from _ _ (le-leb _ most_facts within.facts)
-    (and_from _ _ (le-leb _ most_actions long)
-    (and_from _ _ (le-leb _ most_conditional within.effects)
+task_is : (bounds : Bounds) (p : Parts) (facts : List Atom) (calls : List Call) → IsBounded bounds p (grounded_by p facts calls) → is_within bounds.task (grounded_by p facts calls).task ≡ true
+task_is bounds p facts calls within =
+    let long : length (map (λ c. action_of p facts (instance_of p c)) calls) ≤ bounds.task.actions = subst (λ (n : ℕ). n ≤ bounds.task.actions) (sym (length-map calls (λ c. action_of p facts (instance_of p c)))) within.actions in
+    and_from _ _ (le-leb _ bounds.task.facts within.facts)
+    (and_from _ _ (le-leb _ bounds.task.actions long)
+    (and_from _ _ (le-leb _ bounds.task.conditional within.effects)
     (and_from _ _ (eq-eqb _ _ (length-map facts (λ a. is_in a p.init)))
     (and_from _ _ (is_set facts (goal_of p))
     (actions_are p facts calls)))))
 
+pub grounded_is_within : GroundedIsWithin
+grounded_is_within bounds p g is within =
+    subst (λ (h : Grounded). is_within bounds.task h.task ≡ true) (made p g is) (task_is bounds p g.facts g.calls (subst (IsBounded bounds p) (sym (made p g is)) within))
+
 pub grounded_is_task : GroundedIsTask
-grounded_is_task p g is within =
-    subst (λ (h : Grounded). is_task h.task ≡ true) (made p g is) (task_is p g.facts g.calls (subst (IsWithin p) (sym (made p g is)) within))
+grounded_is_task p g is within = grounded_is_within race_bounds p g is within

@@ -1,6 +1,6 @@
 -- What makes grounding useful: executing calls of the files and running numbered actions is the same.
 use Rattle.std.specs.Prelude.{take, ℕ, ◌≡◌, List, [], ◌∷◌, Bool, true, Some, slice_get, IsTrue, ◌⊎◌, ◌↔◌}
-use Rattle.gt_core.specs.Lawful.{is_task}
+use Rattle.gt_core.specs.Lawful.{is_task, is_within}
 use Rattle.gt_core.specs.Task.{initial_state}
 use Rattle.gt_core.specs.Execution.{CanRun, run, IsGoal}
 use Rattle.pd_model.specs.State.{is_in}
@@ -11,7 +11,7 @@ use Rattle.pd_model.specs.declared.parts.Parts.{Parts}
 use Rattle.grounding_defs.specs.Reach.{IsReachable, IsKept, IsClosed, IsConstant, IsFact}
 use Rattle.grounding_defs.specs.Sorted.{atom_less, call_less, IsSorted}
 use Rattle.grounding_defs.specs.Grounded.{Grounded, IsGrounded}
-use Rattle.grounding_defs.specs.Limits.{IsWithin}
+use Rattle.grounding_defs.specs.Limits.{Bounds, IsBounded, IsWithin}
 use Rattle.grounding_defs.specs.Found.{IsDerivable, IsClosedLists, IsLeastPair, grounded_from}
 
 -- these numbers are those of these calls
@@ -89,6 +89,11 @@ LeastIsGrounded =
     → IsLeastPair p reached kept → IsSorted atom_less reached → IsSorted call_less kept
     → IsGrounded p (grounded_from p reached kept)
 
--- within the limits the task is a lawful one
+-- within limits the task is one within them
+abbrev pub GroundedIsWithin : Type 0
+GroundedIsWithin =
+    (bounds : Bounds) (p : Parts) (g : Grounded) → IsGrounded p g → IsBounded bounds p g → is_within bounds.task g.task ≡ true
+
+-- within the limits of what is encoded the task is a lawful one
 abbrev pub GroundedIsTask : Type 0
 GroundedIsTask = (p : Parts) (g : Grounded) → IsGrounded p g → IsWithin p g → is_task g.task ≡ true

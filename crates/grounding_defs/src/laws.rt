@@ -1,6 +1,6 @@
 //! What makes grounding useful, as a contract.
 
-ghost use Rattle.grounding_defs.specs.Laws.{LeastIsClosed, CallsAreActions, ActionsAreCalls, AtomsAreKnown, GoalsAgree, OneResult, SoundIsLeast, LeastIsGrounded, GroundedIsTask};
+ghost use Rattle.grounding_defs.specs.Laws.{LeastIsClosed, CallsAreActions, ActionsAreCalls, AtomsAreKnown, GoalsAgree, OneResult, SoundIsLeast, LeastIsGrounded, GroundedIsTask, GroundedIsWithin};
 
 /// The laws of grounding. It does nothing.
 pub fn laws()
@@ -12,5 +12,6 @@ pub fn laws()
     ensures one_result { OneResult }
     ensures sound_is_least { SoundIsLeast }
     ensures least_is_grounded { LeastIsGrounded }
+    ensures grounded_is_within { GroundedIsWithin }
     ensures grounded_is_task { GroundedIsTask }
 {}

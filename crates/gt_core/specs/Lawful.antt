@@ -1,7 +1,8 @@
 use Rattle.std.specs.Prelude.{ℕ, ◌+◌, ◌*◌, ◌==◌, List, [], ◌∷◌, Bool, true, false, not, ◌&&◌, ◌||◌, nat_lt, nat_le, length, count_by, sum_by, Option, Some, None}
 use Rattle.std.specs.List.{list_all}
 use Rattle.gt_core.specs.Task.{Effect, Action, Task}
-use Rattle.gt_core.specs.Limits.{most_facts, most_actions, most_conditional}
+use Rattle.gt_core.specs.Limits.{race_limits, wide_limits}
+use Rattle.gt_core.specs.declared.limits.Limits.{Limits}
 
 -- literals that are at least `low` and below `top`, strictly rising
 abbrev pub are_rising : ℕ → ℕ → List ℕ → Bool
@@ -45,12 +46,20 @@ is_conditional e = not (length e.condition == 0)
 abbrev pub conditional_in : List Action → ℕ
 conditional_in actions = sum_by (λ a. count_by is_conditional a.effects) actions
 
--- what each task keeps: the limits, one truth value a fact, and literals that are in range and sorted
-abbrev pub is_task : Task → Bool
-is_task task =
-    nat_le task.facts most_facts
-    && (nat_le (length task.actions) most_actions
-    && (nat_le (conditional_in task.actions) most_conditional
+-- the limits, one truth value a fact, and literals that are in range and sorted
+abbrev pub is_within : Limits → Task → Bool
+is_within limits task =
+    nat_le task.facts limits.facts
+    && (nat_le (length task.actions) limits.actions
+    && (nat_le (conditional_in task.actions) limits.conditional
     && ((length task.initial == task.facts)
     && (is_literal_set task.facts task.goal
     && list_all (is_action task.facts) task.actions))))
+
+-- what each task keeps that is encoded
+abbrev pub is_task : Task → Bool
+is_task task = is_within race_limits task
+
+-- what each task keeps that is searched state by state
+abbrev pub is_wide : Task → Bool
+is_wide task = is_within wide_limits task

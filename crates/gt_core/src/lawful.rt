@@ -3,15 +3,16 @@
 ghost use Rattle.std.specs.Prelude.{◌≡◌, ℕ, ◌≤◌, ◌*◌, nat_le, None};
 ghost use Rattle.std.specs.List.{list_all};
 ghost use Rattle.std.specs.Option.{option_copied};
-ghost use Rattle.gt_core.specs.Lawful.{are_rising, list_less, effect_less, follows, are_effects, is_action, conditional_in};
-ghost use Rattle.gt_core.specs.Limits.{most_facts, most_conditional};
+ghost use Rattle.gt_core.specs.Lawful.{are_rising, list_less, effect_less, follows, are_effects, is_action, conditional_in, is_within};
+ghost use Rattle.gt_core.specs.Limits.{most_wide_facts, most_wide_conditional};
+ghost use Rattle.gt_core.specs.Task.{Task};
 
 use crate::act::Act;
 use crate::eff::Eff;
-use crate::limits::MOST_CONDITIONAL;
+use crate::limits::Limits;
 
 /// Literals below `top`, sorted and without repeats.
-pub(crate) fn are_rising(lits: &[u32], top: u32) -> bool
+fn are_rising(lits: &[u32], top: u32) -> bool
     ensures { result ≡ are_rising top 0 lits.now }
 {
     let mut low = 0;
@@ -58,7 +59,7 @@ fn follows(last: Option<&Eff>, effect: &Eff) -> bool
 }
 
 fn are_effects(effects: &[Eff], facts: u32) -> bool
-    requires { facts ≤ most_facts }
+    requires { facts ≤ most_wide_facts }
     ensures { result ≡ are_effects facts None effects.now }
 {
     let mut last = None;
@@ -75,25 +76,25 @@ fn are_effects(effects: &[Eff], facts: u32) -> bool
 }
 
 fn is_action(act: &Act, facts: u32) -> bool
-    requires { facts ≤ most_facts }
+    requires { facts ≤ most_wide_facts }
     ensures { result ≡ is_action facts act.now }
 {
     are_rising(act.pre(), 2 * facts) && are_effects(act.effects(), facts)
 }
 
-pub(crate) fn are_actions(acts: &[Act], facts: u32) -> bool
-    requires { facts ≤ most_facts }
+fn are_actions(acts: &[Act], facts: u32) -> bool
+    requires { facts ≤ most_wide_facts }
     ensures { result ≡ list_all (is_action facts) acts.now }
 {
     acts.iter().all(|act| is_action(act, facts))
 }
 
-pub(crate) fn has_few_conditional(acts: &[Act]) -> bool
-    ensures { result ≡ nat_le (conditional_in acts.now) most_conditional }
+fn has_few_conditional(acts: &[Act], most: u64) -> bool
+    ensures { result ≡ nat_le (conditional_in acts.now) most }
 {
-    let mut left = MOST_CONDITIONAL as usize;
+    let mut left = most;
     for act in acts {
-        let count = act.conditional();
+        let count = act.conditional() as u64;
         if count > left {
             return false;
         }
@@ -102,9 +103,30 @@ pub(crate) fn has_few_conditional(acts: &[Act]) -> bool
     true
 }
 
+/// Whether these are the parts of a task within the limits.
+pub(crate) fn is_within(
+    limits: &Limits,
+    facts: u32,
+    init: &[bool],
+    goal: &[u32],
+    hopeless: bool,
+    acts: &[Act],
+) -> bool
+    requires { limits.now.facts ≤ most_wide_facts }
+    ensures { let task : Task = record { facts = facts; initial = init.now; goal = goal.now; hopeless = hopeless; actions = acts.now } in result ≡ is_within limits.now task }
+{
+    if u64::from(facts) > limits.facts
+        || acts.len() as u64 > limits.actions
+        || !has_few_conditional(acts, limits.conditional)
+    {
+        return false;
+    }
+    init.len() == facts as usize && are_rising(goal, 2 * facts) && are_actions(acts, facts)
+}
+
 /// How many effects of these actions have a condition.
 pub(crate) fn conditional_in(acts: &[Act]) -> u32
-    requires { conditional_in acts.now ≤ most_conditional }
+    requires { conditional_in acts.now ≤ most_wide_conditional }
     ensures { result ≡ conditional_in acts.now }
 {
     let mut count = 0;

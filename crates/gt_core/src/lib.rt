@@ -15,3 +15,4 @@ pub mod limits;
 pub mod lits;
 pub mod pairs;
 pub mod task;
+pub mod wide;

@@ -1,29 +1,22 @@
-//! Grounded tasks, and what their actions do.
-
-ghost use Rattle.std.specs.Prelude.{◌≡◌, ℕ, ◌+◌, ◌*◌, ◌/◌, ◌<◌, ◌≤◌, length, map, not, true, false, ◌&&◌, ◌||◌, if◌then◌else◌, None, Some};
-ghost use Rattle.std.specs.List.{AllByRecursion, list_any};
+//! Grounded tasks of the size that the encoding takes, and what their actions do.
+ghost use Rattle.std.specs.Prelude.{◌≡◌, ◌*◌, ◌<◌, ◌≤◌, length, true, if◌then◌else◌, None, Some};
 ghost use Rattle.gt_core.specs.Literal.{holds, all_hold, state_of};
-ghost use Rattle.gt_core.specs.Active.{is_active, EffectWithin};
 ghost use Rattle.gt_core.specs.Limits.{most_conditional};
 
 use crate::act::{Act, Acts};
-use crate::eff::Eff;
-use crate::lawful::{are_actions, are_rising, conditional_in, has_few_conditional};
-use crate::limits::{MOST_ACTIONS, MOST_FACTS};
+use crate::lawful::is_within;
+use crate::limits::Limits;
 use crate::lits::{Bits, Lits};
-use containers::let_go;
+use crate::wide::WideTask;
 use std::marker::Model;
 
 /// A grounded task: numbered facts, the truth value of each in the initial state, the literals of the goal, and
 /// numbered actions. The goal is hopeless where it has a literal that is never true. There are at most 2,048 facts,
 /// 16,384 actions and 65,536 effects with a condition; literals are of these facts, sorted and without repeats, and
 /// the effects of an action are sorted by literal and then by condition.
+#[derive(Drop)]
 pub struct Task {
-    facts: u32,
-    init: Bits,
-    goal: Lits,
-    hopeless: bool,
-    acts: Acts,
+    wide: WideTask,
 }
 
 impl Model for Task {
@@ -33,16 +26,9 @@ impl Model for Task {
 
     ghost Value = { Task };
 
-    ghost view = { λ t. record { facts = t.facts; initial = t.init; goal = t.goal; hopeless = t.hopeless; actions = t.acts } };
+    ghost view = { λ t. t.wide };
 
-    ghost invariant = { λ t. is_task (record { facts = t.facts; initial = t.init; goal = t.goal; hopeless = t.hopeless; actions = t.acts }) ≡ true };
-}
-
-/// All parts are let go in one call, so that a proof has one step for it and not one for each part.
-impl Drop for Task {
-    fn drop(self) {
-        let_go!(self: Task { facts, init, goal, hopeless, acts });
-    }
+    ghost invariant = { λ t. is_task t.wide ≡ true };
 }
 
 impl Task {
@@ -55,13 +41,7 @@ impl Task {
         requires { is_task (record { facts = facts; initial = init; goal = goal; hopeless = hopeless; actions = acts }) ≡ true }
         ensures { result ≡ record { facts = facts; initial = init; goal = goal; hopeless = hopeless; actions = acts } }
     {
-        Task {
-            facts,
-            init,
-            goal,
-            hopeless,
-            acts,
-        }
+        Task::of(WideTask::new(facts, init, goal, hopeless, acts))
     }
 
     /// The task of these parts, or none where they are not those of a task.
@@ -69,19 +49,33 @@ impl Task {
         ensures { let task : TaskValue = record { facts = facts; initial = init; goal = goal; hopeless = hopeless; actions = acts } in
             result ≡ (if is_task task then Some task else None) }
     {
-        if u64::from(facts) > MOST_FACTS
-            || acts.as_slice().len() as u64 > MOST_ACTIONS
-            || !has_few_conditional(acts.as_slice())
-        {
-            return None;
-        }
-        if init.as_slice().len() != facts as usize
-            || !are_rising(goal.as_slice(), 2 * facts)
-            || !are_actions(acts.as_slice(), facts)
-        {
+        let limits = Limits::race();
+        if !is_within(
+            &limits,
+            facts,
+            init.as_slice(),
+            goal.as_slice(),
+            hopeless,
+            acts.as_slice(),
+        ) {
             return None;
         }
         Some(Task::new(facts, init, goal, hopeless, acts))
+    }
+
+    /// The task, which is small enough to be encoded.
+    pub(crate) fn of(wide: WideTask) -> Task
+        requires { is_task wide ≡ true }
+        ensures { result ≡ wide }
+    {
+        Task { wide }
+    }
+
+    /// The task, as what searches its states takes it.
+    pub fn wide(&self) -> &WideTask
+        ensures { result.now ≡ self.now }
+    {
+        &self.wide
     }
 
     /// How many facts there are.
@@ -89,28 +83,28 @@ impl Task {
         ensures facts { result ≡ self.now.facts }
         ensures lawful { is_task self.now ≡ true }
     {
-        self.facts
+        self.wide.facts()
     }
 
     /// The truth values of the facts in the initial state.
     pub fn init(&self) -> &[bool]
         ensures { result.now ≡ self.now.initial }
     {
-        self.init.as_slice()
+        self.wide.init()
     }
 
     /// The literals of the goal.
     pub fn goal(&self) -> &[u32]
         ensures { result.now ≡ self.now.goal }
     {
-        self.goal.as_slice()
+        self.wide.goal()
     }
 
     /// The goal has a literal that is never true, besides those listed.
     pub fn hopeless(&self) -> bool
         ensures { result ≡ self.now.hopeless }
     {
-        self.hopeless
+        self.wide.hopeless()
     }
 
     /// The actions.
@@ -118,7 +112,7 @@ impl Task {
         ensures acts { result.now ≡ self.now.actions }
         ensures lawful { is_task self.now ≡ true }
     {
-        self.acts.as_slice()
+        self.wide.acts()
     }
 
     /// One action.
@@ -127,7 +121,7 @@ impl Task {
         ensures act { result.now ≡ action self.now act }
         ensures lawful { is_task self.now ≡ true }
     {
-        &self.acts()[act as usize]
+        self.wide.act(act)
     }
 
     /// How many effects of the actions have a condition.
@@ -135,7 +129,7 @@ impl Task {
         ensures conditional { result ≡ conditional_in self.now.actions }
         ensures few { result ≤ most_conditional }
     {
-        conditional_in(self.acts())
+        self.wide.conditional()
     }
 
     /// Whether a literal holds in a state, which has a truth value for each fact.
@@ -144,7 +138,7 @@ impl Task {
         requires lit { lit < 2 * self.now.facts }
         ensures { result ≡ holds (state_of state.now) lit }
     {
-        literal_holds(state, lit)
+        self.wide.holds(state, lit)
     }
 
     /// Whether an action can run in a state. If so, `into` becomes the state after it; else it stays as it is.
@@ -156,75 +150,6 @@ impl Task {
         ensures runs { result ≡ all_hold (state_of state.now) (precondition self.now act) }
         ensures next { into.new ≡ (if result then next_values self.now (state_of state.now) act else into.old) }
     {
-        let does = self.act(act);
-        if !all_hold(state, does.pre()) {
-            return false;
-        }
-        into.copy_from_slice(state);
-        take_deletes(state, does.effects(), into);
-        take_adds(state, does.effects(), into);
-        true
-    }
-}
-
-fn literal_holds(state: &[bool], lit: u32) -> bool
-    requires { lit / 2 < length state.now }
-    ensures { result ≡ holds (state_of state.now) lit }
-{
-    let value = state[(lit / 2) as usize];
-    if lit % 2 == 0 { value } else { !value }
-}
-
-fn all_hold(state: &[bool], lits: &[u32]) -> bool
-    requires { AllByRecursion (λ l. l / 2 < length state.now) lits.now }
-    ensures { result ≡ all_hold (state_of state.now) lits.now }
-{
-    for lit in lits {
-        if !literal_holds(state, *lit) {
-            return false;
-        }
-    }
-    true
-}
-
-/// Takes an active delete's fact from the state after.
-fn take_delete(state: &[bool], effect: &Eff, into: &mut [bool])
-    requires within { effect.now.literal / 2 < length into.old }
-    requires condition { AllByRecursion (λ l. l / 2 < length state.now) effect.now.condition }
-    ensures { (f : ℕ) → state_of into.new f ≡ (state_of into.old f && not (is_active (state_of state.now) (2 * f + 1) effect.now)) }
-{
-    if effect.lit() % 2 == 1 && all_hold(state, effect.cond()) {
-        into[(effect.lit() / 2) as usize] = false;
-    }
-}
-
-/// Puts an active add's fact into the state after.
-fn take_add(state: &[bool], effect: &Eff, into: &mut [bool])
-    requires within { effect.now.literal / 2 < length into.old }
-    requires condition { AllByRecursion (λ l. l / 2 < length state.now) effect.now.condition }
-    ensures { (f : ℕ) → f < length into.old → state_of into.new f ≡ (is_active (state_of state.now) (2 * f) effect.now || state_of into.old f) }
-{
-    if effect.lit() % 2 == 0 && all_hold(state, effect.cond()) {
-        into[(effect.lit() / 2) as usize] = true;
-    }
-}
-
-fn take_deletes(state: &[bool], effects: &[Eff], into: &mut [bool])
-    requires same { length into.old ≡ length state.now }
-    requires within { AllByRecursion (EffectWithin (length state.now)) effects.now }
-    ensures { (f : ℕ) → state_of into.new f ≡ (state_of into.old f && not (list_any (is_active (state_of state.now) (2 * f + 1)) effects.now)) }
-{
-    for effect in effects {
-        take_delete(state, effect, into);
-    }
-}
-
-fn take_adds(state: &[bool], effects: &[Eff], into: &mut [bool])
-    requires same { length into.old ≡ length state.now }
-    requires within { AllByRecursion (EffectWithin (length state.now)) effects.now }
-    ensures { (f : ℕ) → f < length into.old → state_of into.new f ≡ (list_any (is_active (state_of state.now) (2 * f)) effects.now || state_of into.old f) }
-{
-    for effect in effects {
-        take_add(state, effect, into);
+        self.wide.next(state, act, into)
     }
 }

@@ -16,7 +16,8 @@ use Rattle.judge_top.specs.Causes.{Answers, ComesFor, two_of}
 use Rattle.plan_tasks.proofs.published.Hearing.{two_taken}
 use Rattle.requests.specs.declared.request.Stepping.{Stepping}
 use Rattle.judge_top.specs.declared.ended.Ended.{Ended}
-use Rattle.judge_top.specs.Answers.{TapeRun, tape_run, OnceReady, not_ready, ready, IsTold, AnswersJudge, AnswersModel, too_large, unread, judged, model}
+use Rattle.proof_verdict.specs.Verdict.{TapeRun, tape_run}
+use Rattle.judge_top.specs.Answers.{OnceReady, not_ready, ready, IsTold, AnswersJudge, AnswersModel, too_large, unread, judged, model}
 use Rattle.judge_top.specs.declared.model.Told.{Told}
 use Rattle.judge_top.specs.declared.model.Told.TheVariants as told
 

@@ -1,13 +1,11 @@
 -- The promises of the top call, each from what it needs alone: mostly that its ending has a cause and that its text is written.
-use Rattle.std.proofs.Common.{◌≡◌, ◌≤◌, ◌+◌, ℕ, Bool, true, false, List, [], ◌∷◌, Option, Some, None, refl, sym, ap, subst, ◌∙◌, arith, inl, inr}
+use Rattle.std.proofs.Common.{◌≡◌, ◌≤◌, ℕ, Bool, true, false, List, [], ◌∷◌, Option, Some, None, refl, sym, ap, subst, ◌∙◌, arith, inl, inr}
 use Rattle.std.specs.Prelude.{Contains, ◌⊎◌}
 use Rattle.pl_io.specs.Outside.{Heard, Rose, appended}
 use Rattle.clause_base.specs.Formula.{Cnf}
 use Rattle.pl_io.specs.Tape.{Given, IsFileOf, IsReadOnce}
 use Rattle.pl_io.specs.declared.tape.Reading.TheVariants.{Lost}
 use Rattle.sat_text.specs.Dimacs.{formula_text}
-use Rattle.pd_task.specs.declared.error.PddlError.{PddlError}
-use Rattle.pd_task.specs.declared.error.PddlError.TheVariants as errors
 use Rattle.pd_model.specs.declared.parts.Parts.{Parts}
 use Rattle.grounding_defs.specs.Grounded.{Grounded}
 use Rattle.step_plans.specs.Known.{form_of, formula_at}
@@ -16,14 +14,13 @@ use Rattle.lrat_judge.specs.declared.verdict.Verdict.{Verdict}
 use Rattle.lrat_judge.specs.declared.verdict.Verdict.TheVariants as verdicts
 use Rattle.requests.specs.declared.request.Stepping.{Stepping}
 use Rattle.plan_endings.specs.Ending as plain
-use Rattle.plan_endings.specs.declared.ending.File.{File}
 use Rattle.plan_endings.specs.declared.ending.File.TheVariants.{Proof}
 use Rattle.plan_endings.specs.declared.ending.Ending.{Ending}
 use Rattle.plan_endings.specs.declared.ending.Ending.TheVariants.{Listing}
 use Rattle.plan_tasks.specs.Limits.{file_in}
-use Rattle.plan_tasks.specs.Files.{StopsFrom, RoseAmong}
+use Rattle.plan_tasks.specs.Files.{RoseAmong}
 use Rattle.plan_tasks.specs.Stepping.{places_by}
-use Rattle.plan_tasks.specs.Tasks.{AreTask, IsReady, StopsTask, refused, past, RefusesTask, domain_tree, problem_tree, no_task, refusal_of}
+use Rattle.plan_tasks.specs.Tasks.{AreTask, IsReady, StopsTask}
 use Rattle.plan_tasks.specs.Claims.{Printed, OfFiles}
 use Rattle.plan_tasks.specs.Laws.{TaskLaws}
 use Rattle.plan_tasks.proofs.published.Claims as claims
@@ -32,55 +29,20 @@ use Rattle.plan_report.specs.Laws.{IsSmallPlan}
 use Rattle.plan_tasks.specs.PlanLaws.{PlanLaws}
 use Rattle.plan_tasks.proofs.published.TellingPlans.{model_runs}
 use Rattle.plan_tasks.proofs.published.Printing.{printed_is}
-use Rattle.plan_endings.proofs.published.Statuses.{six_seven, six_seven_eight}
+use Rattle.plan_tasks.proofs.published.Statuses.{task_between, files_between}
+use Rattle.plan_endings.proofs.published.Words as by_words
 use Rattle.judge_top.specs.Seen.{Seen, formulas, judges, models, domain_of, problem_of}
 use Rattle.judge_top.specs.Requested.{requested}
 use Rattle.judge_top.specs.Ended.{status_of, text_of}
 use Rattle.judge_top.specs.declared.ended.Ended.{Ended}
 use Rattle.judge_top.specs.declared.ended.Ended.TheVariants.{Plain, Unread, Usage}
-use Rattle.judge_top.specs.Answers.{TapeRun, HasOpened, OnceReady, not_ready, ready, AnswersFormula, AnswersJudge, AnswersModel, too_large, formula, unread, judged, model, ended_by, IsUnread, TellsTooMany, word_of}
+use Rattle.proof_verdict.specs.Verdict.{TapeRun, HasOpened, IsUnread}
+use Rattle.judge_top.specs.Answers.{OnceReady, not_ready, ready, AnswersFormula, AnswersJudge, AnswersModel, too_large, formula, unread, judged, model, ended_by, TellsTooMany, word_of}
 use Rattle.judge_top.specs.declared.model.Told.TheVariants as tolds
 use Rattle.sat_text.specs.declared.value_reader.Refused.TheVariants as refusals
-use Rattle.judge_top.proofs.Given.{itself}
+use Rattle.proof_verdict.proofs.published.Given.{itself}
 use Rattle.judge_top.specs.Causes.{Answers, Comes, no_request, asked, ComesFor, StopsAt, OfTaken, HasFault, names_in, two_of}
 use Rattle.judge_top.specs.Headline.{IsProvedNone, PlanRunsIn, TellsFormula, WhenRead, OfVerdict, IsAccepted, IsRejected, IsNoProof, OrNoTask, TellsModel, TellsNoModel, TellsNoText, IsModelTold, IsNoModelTold, IsNoTextTold}
-
--- ---- statuses of what stops a run
-
-some_status : (k end : Ending) (n : ℕ) → Some k ≡ Some end → plain.status_of k ≡ n → plain.status_of end ≡ n
-some_status k end n e at = let same : k ≡ end = cc in subst (λ (x : Ending). plain.status_of x ≡ n) same at
-
--- the ending that tells of the cause for which two trees are no task
-refusal_three : (cause : PddlError) (end : Ending) → refusal_of cause ≡ Some end → plain.status_of end ≡ 3
-refusal_three (errors.Shape file at) end e = some_status _ end 3 e refl
-refusal_three (errors.Unknown file at) end e = some_status _ end 3 e refl
-refusal_three (errors.Arity file at) end e = some_status _ end 3 e refl
-refusal_three (errors.Duplicate file at) end e = some_status _ end 3 e refl
-refusal_three (errors.Unsupported file at) end e = some_status _ end 3 e refl
-refusal_three errors.Memory end e = absurd (let never : None ≡ Some end = e in cc)
-
-refused_three : (domain problem : List ℕ) (end : Ending) → RefusesTask domain problem end → plain.status_of end ≡ 3
-refused_three domain problem end (domain_tree h) = ap plain.status_of h.2
-refused_three domain problem end (problem_tree first reads h) = ap plain.status_of h.2
-refused_three domain problem end (no_task first second reads also h) = refusal_three h.0 end h.2
-
--- two files that are no task within the limits
-task_between : (domain problem : List ℕ) (end : Ending) → StopsTask domain problem end → (3 ≤ plain.status_of end) × (plain.status_of end ≤ 4)
-task_between domain problem end (refused r) = let three = refused_three domain problem end r in (omega (arith, three), omega (arith, three))
-task_between domain problem end (past task are over) = let four = ap plain.status_of over.2 in (omega (arith, four), omega (arith, four))
-
--- a file that stops a run: it could not be read, or is too long
-files_between : (failed fails : List (List ℕ)) (files : ℕ → File) (place : ℕ) (names : List (List ℕ)) (took : List Heard) (end : Ending) → StopsFrom failed fails files place names took end
-    → ((plain.status_of end ≡ 5) × RoseAmong names failed fails) ⊎ (plain.status_of end ≡ 4)
-files_between failed fails files place [] took end h = absurd h
-files_between failed fails files place (name ∷ names) [] end (inl fault) = inl (ap plain.status_of fault.0, inl fault.1)
-files_between failed fails files place (name ∷ names) [] end (inr long) = inr (ap plain.status_of long.0)
-files_between failed fails files place (name ∷ names) (heard ∷ took) end (inl (inl fault)) = inl (ap plain.status_of fault.0, inl fault.1)
-files_between failed fails files place (name ∷ names) (heard ∷ took) end (inl (inr long)) = inr (ap plain.status_of long.0)
-files_between failed fails files place (name ∷ names) (heard ∷ took) end (inr more) = elim (files_between failed fails files (place + 1) names took end more.1) [
-  | inl h ↦ inl (h.0, inr h.1)
-  | inr h ↦ inr h
-]
 
 -- a verdict has a status of its own
 verdict_low : (horizon : ℕ) (verdict : Verdict) → status_of (ended_by horizon verdict) ≤ 4
@@ -206,11 +168,7 @@ module _ (heard hears : List Heard) (failed fails : List (List ℕ)) (tape : Tap
 
   -- no ending that comes has a status of its own for a write fault or for want of memory
   pub status_apart : (words : List (List ℕ)) (end : Ended) → Comes heard hears failed fails tape words end → (status_of end ≡ 6 → ⊥) × (status_of end ≡ 8 → ⊥)
-  status_apart words end h = elim (words_low words end h) [
-    | inl k ↦ (let seven = k.0 in (λ six. omega (arith, seven, six), λ eight. omega (arith, seven, eight)))
-    | inr (inl k) ↦ (let five = k.0 in (λ six. omega (arith, five, six), λ eight. omega (arith, five, eight)))
-    | inr (inr low) ↦ (λ six. omega (arith, low, six), λ eight. omega (arith, low, eight))
-  ]
+  status_apart words = by_words.status_apart status_of _ _ _ (words_low words)
 
 -- ---- what is promised
 
@@ -224,9 +182,7 @@ module _ (heard hears : List Heard) (failed fails : List (List ℕ)) (tape : Tap
   IsDue = (status ≡ 6 → ⊥) → (status ≡ 8 → ⊥) → (end : Ended) × (status ≡ status_of end) × Comes heard hears failed fails tape words end × (after ≡ appended before (text_of end))
 
   due_at : (k : ℕ) → IsDue → status ≡ k → k ≤ 5 → (end : Ended) × (status_of end ≡ k) × Comes heard hears failed fails tape words end × (after ≡ appended before (text_of end))
-  due_at k due is low =
-      let d = due (λ six. absurd (omega arith)) (λ eight. absurd (omega arith)) in
-      (d.0, sym d.1 ∙ is, d.2, d.3)
+  due_at k due = by_words.due_at status_of _ _ _ (words_low heard hears failed fails tape words) status _ due k
 
   -- what comes of words that ask for this
   comes_for : (request : Seen) (end : Ended) → requested words ≡ Some request → Comes heard hears failed fails tape words end → ComesFor heard hears failed fails tape request end
@@ -464,35 +420,18 @@ module _ (heard hears : List Heard) (failed fails : List (List ℕ)) (tape : Tap
 
   -- ---- words and faults
 
-  usage_only : (end : Ended) → status_of end ≡ 7 → Comes heard hears failed fails tape words end → requested words ≡ None
-  usage_only end seven h = elim (words_low heard hears failed fails tape words end h) [
-    | inl k ↦ k.1
-    | inr (inl k) ↦ absurd (let five = k.0 in omega (arith, five, seven))
-    | inr (inr low) ↦ absurd (omega (arith, low, seven))
-  ]
-
   pub usage : IsDue → status ≡ 7 → requested words ≡ None
-  usage due seven = let d = due (λ six. absurd (omega arith)) (λ eight. absurd (omega arith)) in usage_only d.0 (sym d.1 ∙ seven) d.2
-
-  fault_of : (end : Ended) → status_of end ≡ 5 → Comes heard hears failed fails tape words end → HasFault failed fails tape.faults tape.rises words
-  fault_of end five h = elim (words_low heard hears failed fails tape words end h) [
-    | inl k ↦ absurd (let seven = k.0 in omega (arith, five, seven))
-    | inr (inl k) ↦ k.1
-    | inr (inr low) ↦ absurd (omega (arith, low, five))
-  ]
+  usage due = by_words.usage status_of _ _ _ (words_low heard hears failed fails tape words) status _ due
 
   pub read_fault : IsDue → status ≡ 5 → HasFault failed fails tape.faults tape.rises words
-  read_fault due five = let d = due_at 5 due five (omega arith) in fault_of d.0 d.1 d.2
+  read_fault due = by_words.read_fault status_of _ _ _ (words_low heard hears failed fails tape words) status _ due
 
   not_asked : requested words ≡ None → (end : Ended) → Comes heard hears failed fails tape words end → end ≡ Usage
   not_asked none end (no_request also e) = e
   not_asked none end (asked request is h) = absurd (let never : None ≡ Some request = sym none ∙ is in cc)
 
-  seven : IsDue → requested words ≡ None → (status ≡ 6 → ⊥) → (status ≡ 8 → ⊥) → status ≡ 7
-  seven due none not_six not_eight = let d = due not_six not_eight in d.1 ∙ ap status_of (not_asked none d.0 d.2)
-
   pub not_taken : IsDue → requested words ≡ None → Contains (6 ∷ 7 ∷ 8 ∷ []) status
-  not_taken due none = six_seven_eight status (seven due none)
+  not_taken due none = by_words.not_taken status_of _ _ _ (words_low heard hears failed fails tape words) status _ due Usage refl (not_asked none)
 
   pub no_command : IsDue → requested words ≡ None → (status ≡ 8 → ⊥) → Contains (6 ∷ 7 ∷ []) status
-  no_command due none not_eight = six_seven status (λ not_six. seven due none not_six not_eight)
+  no_command due none = by_words.no_command status_of _ _ _ (words_low heard hears failed fails tape words) status _ due Usage refl (not_asked none)

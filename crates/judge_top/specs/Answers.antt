@@ -10,8 +10,6 @@ use Rattle.pd_model.specs.declared.parts.Parts.{Parts}
 use Rattle.pl_io.specs.Outside.{Rose}
 use Rattle.pl_io.specs.Tape as tapes
 use Rattle.pl_io.specs.declared.tape.Reading.TheVariants.{Lost}
-use Rattle.pl_io.specs.declared.outside.TakeError.{TakeError}
-use Rattle.pl_io.specs.declared.outside.TakeError.TheVariants as takes
 use Rattle.step_laws.specs.Form.{OrderedTask, AreSets, steps_at}
 use Rattle.step_encoding.specs.Limits.{most_literals}
 use Rattle.step_encoding.specs.Numbers.{literals_of}
@@ -21,19 +19,19 @@ use Rattle.sat_text.specs.Values.{Reading, Values as values_read, model_of, refu
 use Rattle.sat_text.specs.declared.value_reader.Refused.TheVariants as refused
 use Rattle.plan_report.specs.Report.{plan_text}
 use Rattle.plan_report.specs.Laws.{IsSmallPlan}
-use Rattle.lrat_judge.specs.Verdicts.{verdict_of}
+use Rattle.proof_verdict.specs.Verdict.{TapeRun, IsUnread, IsVerdictOn}
 use Rattle.lrat_judge.specs.declared.verdict.Verdict.{Verdict}
 use Rattle.lrat_judge.specs.declared.verdict.Verdict.TheVariants as verdicts
 use Rattle.requests.specs.declared.request.Stepping.{Stepping}
 use Rattle.requests.specs.declared.request.Stepping.TheVariants.{Exists, All}
 use Rattle.plan_endings.specs.declared.ending.Ending.{Ending}
-use Rattle.plan_endings.specs.declared.ending.Ending.TheVariants.{Listing, TooLarge, ReadFault, NotEmpty}
-use Rattle.plan_endings.specs.declared.ending.File.TheVariants.{Proof}
+use Rattle.plan_endings.specs.declared.ending.Ending.TheVariants.{Listing, TooLarge, NotEmpty}
 use Rattle.plan_endings.specs.Ends as ends
 use Rattle.plan_endings.specs.declared.stop.Stop.{Stop}
-use Rattle.plan_endings.specs.declared.stop.Stop.TheVariants.{Ends, Memory}
 use Rattle.plan_tasks.specs.Stepping.{places_by, is_plan_by}
 use Rattle.plan_tasks.specs.Tasks.{AreTask, IsReady, StopsTask}
+use Rattle.judge_top.specs.declared.answer.Open.{Open}
+use Rattle.judge_top.specs.declared.answer.Open.TheVariants as opens
 use Rattle.judge_top.specs.declared.ended.Ended.{Ended}
 use Rattle.judge_top.specs.declared.ended.Ended.TheVariants.{Plain, Refuted, Rejected, TooLong, Syntax, NoModel, NoText, Unread}
 use Rattle.judge_top.specs.declared.model.Given.{Given}
@@ -85,30 +83,6 @@ pub data AnswersFormula (how : Stepping) (horizon : ℕ) (task : Parts) (g : Gro
   too_large : (plain : Ending) → TellsTooMany (places_by how) horizon g.task plain → end ≡ Plain plain → AnswersFormula how horizon task g end
   formula : OfKnown g.task (λ form. end ≡ Plain (Listing (formula_text (word_of how) horizon (formula_at (places_by how) form horizon)))) → AnswersFormula how horizon task g end
 
--- What a tape did in a run: the counts of its faults before it and after it, and what it had opened and handed over.
-pub record TapeRun : Type 0 where
-  pub faults : ℕ
-  pub rises : ℕ
-  pub before : tapes.Given
-  pub given : tapes.Given
-
--- the record of these counts and of what was handed over
-abbrev pub tape_run : ℕ → ℕ → tapes.Given → tapes.Given → TapeRun
-tape_run faults rises before given = record { faults = faults; rises = rises; before = before; given = given }
-
--- a run opened a file of this name, once, and no other
-abbrev pub HasOpened : TapeRun → List ℕ → Type 0
-HasOpened tape name = tape.given.opened ≡ tape.before.opened ++ name ∷ []
-
--- the ending tells that the proof could not be read, and the count of a tape's faults rose
-abbrev pub IsUnread : ℕ → ℕ → Ending → Type 0
-IsUnread before now end = (end ≡ ReadFault Proof) × Rose before now
-
--- the stop of a tape that gave nothing
-abbrev pub stop_of : TakeError → Stop
-stop_of takes.Failed = Ends (ReadFault Proof)
-stop_of takes.Memory = Memory
-
 -- how a run ends with a verdict
 abbrev pub ended_by : ℕ → Verdict → Ended
 ended_by horizon (verdicts.Refuted entries) = Refuted horizon entries
@@ -120,12 +94,6 @@ ended_by horizon _ = Plain NotEmpty
 -- no lists of actions are a plan of so many steps
 abbrev pub HasNone : Stepping → ℕ → OrderedTask → Type 0
 HasNone how horizon form = (steps : List (List ℕ)) → AreSets (is_plan_by how) form.task (order_of form.components) steps horizon → ⊥
-
--- no call that read the file failed, and the verdict is the one on the bytes of the whole file, whatever these are past those that were
--- handed over, for a formula
-pub record IsVerdictOn (formula : Cnf) (given : tapes.Given) (verdict : Verdict) : Type 0 where
-  pub sound : given.reading ≢ Lost
-  pub is : (file : List ℕ) → tapes.IsFileOf given file → verdict ≡ verdict_of formula file
 
 -- the same for the formula of a horizon
 abbrev pub IsVerdict : Stepping → ℕ → tapes.Given → Verdict → OrderedTask → Type 0
@@ -186,3 +154,8 @@ ended_with task g horizon (told.Plan steps) = Plain (Listing (plan_text task g h
 pub data AnswersModel (how : Stepping) (horizon : ℕ) (tape : TapeRun) (task : Parts) (g : Grounded) (end : Ended) : Type 0 where
   too_large : (plain : Ending) → TellsTooMany (places_by how) horizon g.task plain → end ≡ Plain plain → AnswersModel how horizon tape task g end
   model : (said : Told) → OfKnown g.task (IsTold (places_by how) horizon tape said) → IsSmallTold horizon said → end ≡ ended_with task g horizon said → AnswersModel how horizon tape task g end
+
+-- what the file on the tape comes to, of whichever kind it is
+abbrev pub AnswersOpen : Open → Stepping → ℕ → TapeRun → Parts → Grounded → Ended → Type 0
+AnswersOpen opens.Proof = AnswersJudge
+AnswersOpen opens.Model = AnswersModel

@@ -10,7 +10,8 @@ use Rattle.judge_top.specs.Seen.{Seen, formulas, judges, models, domain_of, prob
 use Rattle.judge_top.specs.Requested.{requested}
 use Rattle.judge_top.specs.declared.ended.Ended.{Ended}
 use Rattle.judge_top.specs.declared.ended.Ended.TheVariants.{Plain, Unread, Usage}
-use Rattle.judge_top.specs.Answers.{TapeRun, HasOpened, OnceReady, AnswersFormula, AnswersJudge, AnswersModel, IsUnread}
+use Rattle.proof_verdict.specs.Verdict.{TapeRun, HasOpened, IsUnread}
+use Rattle.judge_top.specs.Answers.{OnceReady, AnswersFormula, AnswersJudge, AnswersModel}
 
 -- the names of the domain and of the problem
 abbrev pub two_of : Seen → List (List ℕ)

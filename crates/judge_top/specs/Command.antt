@@ -18,25 +18,15 @@ step_words = codes "exists" ∷ codes "all" ∷ []
 abbrev pub steps_list : ValueParser
 steps_list = one_among step_words
 
--- The word that names a command.
-abbrev pub word_of : Name → Text
-word_of Formula = codes "formula"
-word_of Judge = codes "judge"
-word_of Model = codes "model"
-
 -- The word of the horizon.
 abbrev pub horizon_word : Rule
 horizon_word = reading_word (codes "horizon") (reader.Signed (pos 0) (pos last_horizon))
 
--- What follows that word: the words in their order, then the option.
-abbrev pub rules_of : ValueParser → Name → List Rule
-rules_of by Formula = word (codes "domain") ∷ word (codes "problem") ∷ horizon_word ∷ option (codes "steps") by (codes "exists") ∷ []
-rules_of by Judge = word (codes "domain") ∷ word (codes "problem") ∷ horizon_word ∷ word (codes "proof") ∷ option (codes "steps") by (codes "exists") ∷ []
-rules_of by Model = word (codes "domain") ∷ word (codes "problem") ∷ horizon_word ∷ word (codes "model") ∷ option (codes "steps") by (codes "exists") ∷ []
-
--- The one simple command of a name.
+-- The one simple command of a name: the word that names it, and the words in their order, then the option.
 abbrev pub command_of : ValueParser → Name → App
-command_of by name = with_rules (new_app (word_of name)) (rules_of by name)
+command_of by Formula = with_rules (new_app (codes "formula")) (word (codes "domain") ∷ word (codes "problem") ∷ horizon_word ∷ option (codes "steps") by (codes "exists") ∷ [])
+command_of by Judge = with_rules (new_app (codes "judge")) (word (codes "domain") ∷ word (codes "problem") ∷ horizon_word ∷ word (codes "proof") ∷ option (codes "steps") by (codes "exists") ∷ [])
+command_of by Model = with_rules (new_app (codes "model")) (word (codes "domain") ∷ word (codes "problem") ∷ horizon_word ∷ word (codes "model") ∷ option (codes "steps") by (codes "exists") ∷ [])
 
 -- The command that a word names.
 abbrev pub named : Text → Option Name

@@ -1,14 +1,10 @@
 -- What words ask for.
-use Rattle.std.specs.Prelude.{Option, Some, List}
-use Rattle.clap.specs.Walk.{Text, Row}
+use Rattle.std.specs.Prelude.{Option, List}
+use Rattle.clap.specs.Walk.{Text}
 use Rattle.requests.specs.Asked as asked
 use Rattle.judge_top.specs.declared.command.Name.{Name}
 use Rattle.judge_top.specs.Command.{command_of, steps_list, named}
-use Rattle.judge_top.specs.Seen.{Seen, seen_in}
-
--- What a command's matches ask for.
-abbrev pub some_in : Name → List Row → Option Seen
-some_in name rows = Some (seen_in name rows)
+use Rattle.judge_top.specs.Seen.{Seen, some_in}
 
 -- The command that the first word names, where there is one.
 abbrev pub command_named : List Text → Option Name

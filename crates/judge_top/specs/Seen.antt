@@ -1,5 +1,5 @@
 -- What words can ask for, and what the matches of a command give.
-use Rattle.std.specs.Prelude.{ℕ, List, codes, if◌then◌else◌}
+use Rattle.std.specs.Prelude.{ℕ, List, Option, Some, codes, if◌then◌else◌}
 use Rattle.std.specs.Str.{bytes_eq}
 use Rattle.clap.specs.Walk.{Text, Row}
 use Rattle.requests.specs.Passed.{text_at, number_at}
@@ -25,6 +25,10 @@ abbrev pub seen_in : Name → List Row → Seen
 seen_in name.Formula rows = formulas (text_at (codes "domain") rows) (text_at (codes "problem") rows) (number_at (codes "horizon") rows) (steps_of (text_at (codes "steps") rows))
 seen_in name.Judge rows = judges (text_at (codes "domain") rows) (text_at (codes "problem") rows) (number_at (codes "horizon") rows) (text_at (codes "proof") rows) (steps_of (text_at (codes "steps") rows))
 seen_in name.Model rows = models (text_at (codes "domain") rows) (text_at (codes "problem") rows) (number_at (codes "horizon") rows) (text_at (codes "model") rows) (steps_of (text_at (codes "steps") rows))
+
+-- The same of a command that asks for something whatever its matches are, as each of these does.
+abbrev pub some_in : Name → List Row → Option Seen
+some_in name rows = Some (seen_in name rows)
 
 -- A request of the code, by the names and the numbers in it.
 abbrev pub seen : Request → Seen

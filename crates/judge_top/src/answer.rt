@@ -3,33 +3,43 @@ ghost use Rattle.std.specs.Prelude.{◌≡◌, ◌≤◌, length, IfOk};
 ghost use Rattle.containers.specs.Limits.{most_bytes};
 ghost use Rattle.pl_io.specs.Tape.{IsAtFront};
 ghost use Rattle.plan_endings.specs.Ends.{OnlyMemory};
-ghost use Rattle.judge_top.specs.Answers.{EndsWith, tape_run, OnceReady, AnswersFormula, AnswersJudge, AnswersModel, IsBelow, IsSmallTold, ended_by, ended_with};
+ghost use Rattle.proof_verdict.specs.Verdict.{tape_run};
+ghost use Rattle.judge_top.specs.Answers.{EndsWith, OnceReady, AnswersFormula, AnswersOpen, IsBelow, IsSmallTold, ended_by, ended_with};
 ghost use Rattle.horizon_rates.specs.Limits.{last_horizon};
 
 use crate::Ended;
-use crate::formula::formula_by;
+use crate::formula::{formula_by, word_of};
 use crate::model::{Told, told_by};
-use crate::told::{told, word_of};
-use crate::verdict::verdict_on;
 use lrat_judge::verdict::Verdict;
 use pl_io::{Bytes, Tape};
 use plan_endings::Ending;
 use plan_endings::stop::Stop;
 use plan_report::plan_text;
 use plan_tasks::ready::{Ready, read_ready};
+use proof_verdict::told::told;
+use proof_verdict::verdict::verdict_on;
 use requests::Stepping;
 use sat_text::value_reader::Refused;
 use std::alloc::Global;
 use std::thread::Threads;
 
+/// What the file is that is open.
+#[derive(Clone, Copy)]
+pub enum Open {
+    /// A proof.
+    Proof,
+    /// The text of a model.
+    Model,
+}
+
 /// What a domain and a problem come to for the command `formula`.
 pub fn answer_formula<H: Threads + Sync>(
     rt: &H,
     alloc: Global,
-    domain: &[u8],
-    problem: &[u8],
     horizon: u32,
     steps: Stepping,
+    domain: &[u8],
+    problem: &[u8],
 ) -> Result<Ended, Stop>
     requires domain_fits { length domain.now ≤ most_bytes }
     requires problem_fits { length problem.now ≤ most_bytes }
@@ -40,30 +50,6 @@ pub fn answer_formula<H: Threads + Sync>(
     let formula = formula_by(rt, alloc, steps, ready.grounded.task(), horizon)?;
     let text = told(alloc, word_of(steps).as_bytes(), horizon, &formula)?;
     Ok(Ended::Plain(Ending::Listing(text)))
-}
-
-/// What a domain, a problem and the proof that is open come to for the command `judge`.
-pub fn answer_judge<H: Threads + Sync, T: Tape>(
-    rt: &H,
-    alloc: Global,
-    domain: &[u8],
-    problem: &[u8],
-    horizon: u32,
-    steps: Stepping,
-    tape: &mut T,
-) -> Result<Ended, Stop>
-    requires domain_fits { length domain.now ≤ most_bytes }
-    requires problem_fits { length problem.now ≤ most_bytes }
-    requires horizon { horizon ≤ last_horizon }
-    requires front { IsAtFront (T.given tape.old) }
-    ensures ended { EndsWith (λ end. OnceReady domain.now problem.now (AnswersJudge steps horizon (tape_run (T.faults tape.old) (T.faults tape.new) (T.given tape.old) (T.given tape.new))) end) result }
-    ensures opened { (T.given tape.new).opened ≡ (T.given tape.old).opened }
-    ensures later { T.faults tape.old ≤ T.faults tape.new }
-{
-    let ready = read_ready(alloc, domain, problem)?;
-    let formula = formula_by(rt, alloc, steps, ready.grounded.task(), horizon)?;
-    let verdict = verdict_on(alloc, &formula, tape)?;
-    Ok(ended(horizon, verdict))
 }
 
 // How a run ends with a verdict; a proof that is not read to its end has none.
@@ -79,28 +65,40 @@ fn ended(horizon: u32, verdict: Verdict) -> Ended
     }
 }
 
-/// What a domain, a problem and the text of a model that is open come to for the command `model`.
-pub fn answer_model<H: Threads + Sync, T: Tape>(
+/// What a domain, a problem and the file that is open come to, which is a proof for the command `judge`, and the text of a model for
+/// `model`.
+pub fn answer_open<H: Threads + Sync, T: Tape>(
     rt: &H,
     alloc: Global,
-    domain: &[u8],
-    problem: &[u8],
     horizon: u32,
     steps: Stepping,
+    what: Open,
+    domain: &[u8],
+    problem: &[u8],
     tape: &mut T,
 ) -> Result<Ended, Stop>
     requires domain_fits { length domain.now ≤ most_bytes }
     requires problem_fits { length problem.now ≤ most_bytes }
     requires horizon { horizon ≤ last_horizon }
     requires front { IsAtFront (T.given tape.old) }
-    ensures ended { EndsWith (OnceReady domain.now problem.now (AnswersModel steps horizon (tape_run (T.faults tape.old) (T.faults tape.new) (T.given tape.old) (T.given tape.new)))) result }
+    ensures ended { EndsWith (λ end. OnceReady domain.now problem.now (AnswersOpen what steps horizon (tape_run (T.faults tape.old) (T.faults tape.new) (T.given tape.old) (T.given tape.new))) end) result }
     ensures opened { (T.given tape.new).opened ≡ (T.given tape.old).opened }
     ensures later { T.faults tape.old ≤ T.faults tape.new }
 {
     let ready = read_ready(alloc, domain, problem)?;
-    let told = told_by(rt, alloc, steps, ready.grounded.task(), horizon, tape)?;
-    let end = ended_told(alloc, &ready, horizon, told)?;
-    Ok(end)
+    let task = ready.grounded.task();
+    match what {
+        Open::Proof => {
+            let formula = formula_by(rt, alloc, steps, task, horizon)?;
+            let verdict = verdict_on(alloc, &formula, tape)?;
+            Ok(ended(horizon, verdict))
+        }
+        Open::Model => {
+            let told = told_by(rt, alloc, steps, task, horizon, tape)?;
+            let end = ended_told(alloc, &ready, horizon, told)?;
+            Ok(end)
+        }
+    }
 }
 
 // How a run ends with what was made of a model's text.

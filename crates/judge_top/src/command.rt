@@ -2,12 +2,12 @@
 ghost use Rattle.std.specs.Prelude.{◌≡◌, IfOk};
 ghost use Rattle.clap.specs.Words.{app_of};
 ghost use Rattle.requests.specs.Arguments.{TakesWords};
-ghost use Rattle.judge_top.specs.Command.{command_of, named, step_words, word_of};
+ghost use Rattle.judge_top.specs.Command.{command_of, named, step_words};
 
 use clap::Command;
 use clap::builder::ValueParser;
 use horizon_rates::LAST_HORIZON;
-use requests::{Argument, put, with_all};
+use requests::{Argument, with_all};
 use std::alloc::{AllocError, Global};
 
 // The greatest horizon, in the type of a command line's numbers.
@@ -42,17 +42,6 @@ pub(crate) fn steps_reader() -> ValueParser<'static>
     ValueParser::Names(STEPS.as_slice())
 }
 
-// The word that names a command.
-fn word_for(name: Name) -> &'static str
-    ensures { result.now ≡ word_of name }
-{
-    match name {
-        Name::Formula => "formula",
-        Name::Judge => "judge",
-        Name::Model => "model",
-    }
-}
-
 /// The command of this name.
 pub(crate) fn command_by<'a>(
     alloc: Global,
@@ -61,20 +50,21 @@ pub(crate) fn command_by<'a>(
 ) -> Result<Command<'a>, AllocError>
     ensures { IfOk result (λ c. app_of c ≡ command_of by.entry name) }
 {
-    let mut arguments = Vec::new(alloc);
-    put(
-        &mut arguments,
-        &[
-            Argument::Word("domain"),
-            Argument::Word("problem"),
-            Argument::Read("horizon", ValueParser::Signed(0, GREATEST_HORIZON)),
-        ],
-    )?;
+    let domain = Argument::Word("domain");
+    let problem = Argument::Word("problem");
+    let horizon = Argument::Read("horizon", ValueParser::Signed(0, GREATEST_HORIZON));
+    let steps = Argument::Long("steps", by, "exists");
     match name {
-        Name::Formula => {}
-        Name::Judge => put(&mut arguments, &[Argument::Word("proof")])?,
-        Name::Model => put(&mut arguments, &[Argument::Word("model")])?,
+        Name::Formula => with_all(alloc, "formula", &[domain, problem, horizon, steps]),
+        Name::Judge => with_all(
+            alloc,
+            "judge",
+            &[domain, problem, horizon, Argument::Word("proof"), steps],
+        ),
+        Name::Model => with_all(
+            alloc,
+            "model",
+            &[domain, problem, horizon, Argument::Word("model"), steps],
+        ),
     }
-    put(&mut arguments, &[Argument::Long("steps", by, "exists")])?;
-    with_all(alloc, word_for(name), arguments.as_slice())
 }

@@ -5,17 +5,18 @@ ghost use Rattle.plan_tasks.specs.Files.{NotesAmong};
 ghost use Rattle.containers.specs.Limits.{most_bytes};
 ghost use Rattle.judge_top.specs.Requested.{requested, command_named};
 ghost use Rattle.judge_top.specs.Seen.{seen, horizon_of};
-ghost use Rattle.judge_top.specs.Answers.{EndsWith, tape_run};
+ghost use Rattle.proof_verdict.specs.Verdict.{tape_run};
+ghost use Rattle.judge_top.specs.Answers.{EndsWith};
 ghost use Rattle.judge_top.specs.Causes.{Answers, OfModel, ComesFor, Comes, names_in, two_of};
 ghost use Rattle.horizon_rates.specs.Limits.{last_horizon};
 
-use crate::answer::{answer_formula, answer_judge, answer_model};
-use crate::verdict::open;
+use crate::answer::{Open, answer_formula, answer_open};
 use crate::{Ended, Request};
 use pl_io::{Shelf, TakeError, Tape};
 use plan_endings::File;
 use plan_endings::stop::Stop;
 use plan_tasks::take::{Names, take_all};
+use proof_verdict::verdict::open;
 use requests::{Stepping, read_words};
 use std::alloc::Global;
 use std::thread::Threads;
@@ -33,10 +34,10 @@ pub fn decide<H: Threads + Sync, S: Shelf, T: Tape>(
     ensures untouched { requested (map string_bytes words.now) ≡ None → shelf.new ≡ shelf.old }
     ensures told { S.told shelf.new ≡ S.told shelf.old }
     ensures lacks { S.lacks shelf.new ≡ S.lacks shelf.old }
+    ensures tape_faults { T.faults tape.old ≤ T.faults tape.new }
     ensures agrees { Agrees (S.told shelf.old) (S.lacks shelf.old) (S.heard shelf.old) (S.heard shelf.new) }
     ensures noted { NotesAmong (names_in (map string_bytes words.now)) (S.failed shelf.old) (S.failed shelf.new) }
     ensures never_falls { (name : List ℕ) → fault_count name (S.failed shelf.old) ≤ fault_count name (S.failed shelf.new) }
-    ensures tape_faults { T.faults tape.old ≤ T.faults tape.new }
 {
     match read_words(alloc, words)? {
         None => Ok(Ended::Usage),
@@ -91,7 +92,7 @@ fn answer<H: Threads + Sync, T: Tape>(
             horizon,
             stepping,
             ..
-        } => { answer_formula(rt, alloc, first, second, *horizon, *stepping) }
+        } => { answer_formula(rt, alloc, *horizon, *stepping, first, second) }
         Request::Judge {
             horizon,
             proof,
@@ -99,7 +100,16 @@ fn answer<H: Threads + Sync, T: Tape>(
             ..
         } => {
             open(tape, proof)?;
-            answer_judge(rt, alloc, first, second, *horizon, *stepping, tape)
+            answer_open(
+                rt,
+                alloc,
+                *horizon,
+                *stepping,
+                Open::Proof,
+                first,
+                second,
+                tape,
+            )
         }
         Request::Model {
             horizon,
@@ -128,7 +138,7 @@ fn answer_opened<H: Threads + Sync, T: Tape>(
     ensures tape_faults { T.faults tape.old ≤ T.faults tape.new }
 {
     match tape.open(model) {
-        Ok(()) => answer_model(rt, alloc, first, second, horizon, steps, tape),
+        Ok(()) => answer_open(rt, alloc, horizon, steps, Open::Model, first, second, tape),
         Err(TakeError::Failed) => Ok(Ended::Unread),
         Err(TakeError::Memory) => Err(Stop::Memory),
     }

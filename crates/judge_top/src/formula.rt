@@ -4,7 +4,7 @@ ghost use Rattle.clause_base.specs.Formula.{IsUnsatisfiable};
 ghost use Rattle.step_encoding.specs.{Limits.most_literals, Numbers.literals_of};
 ghost use Rattle.plan_endings.specs.Ends.{StopsBy};
 ghost use Rattle.plan_tasks.specs.Stepping.{places_by, is_plan_by};
-ghost use Rattle.judge_top.specs.Answers.{OfKnown, IsFormula, IsTooMany, TellsTooMany};
+ghost use Rattle.judge_top.specs.Answers.{OfKnown, IsFormula, IsTooMany, TellsTooMany, word_of};
 ghost use Rattle.horizon_rates.specs.Limits.{last_horizon};
 
 use action_order::publish::publish;
@@ -20,6 +20,16 @@ use step_encoding::exists::Components;
 use step_encoding::form::{FormError, StepForm};
 use step_encoding::placed::{Placed, Placing};
 use two_invariants::find;
+
+/// The word for a kind of steps.
+pub fn word_of(steps: Stepping) -> &'static str
+    ensures { result.now ≡ word_of steps }
+{
+    match steps {
+        Stepping::Exists => "exists",
+        Stepping::All => "all",
+    }
+}
 
 /// The formula of a horizon of a task; or the run stops, where it has more than `MOST_LITERALS` literals.
 pub fn formula_by<H: Threads + Sync>(

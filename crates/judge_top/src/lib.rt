@@ -3,10 +3,10 @@
 //!
 //! `specs/Headline.antt` says what is promised, and `specs/Causes.antt` when each answer comes.
 //!
-//! `read` reads the words. `decide` takes the two files, grounds the task and builds the formula of the horizon (`formula`), and either gives it as
-//! text (`told`) or hands the proof, piece by piece as a `Tape` gives it, to lrat_judge (`verdict`). In memory are the formula, what was learned,
-//! and one line. `answer` has one function a command; for `model`, `model` has the values read and tested, and the steps that they stand for
-//! by the form. `ended` has how a run ends, and `written` writes it.
+//! `read` reads the words. `decide` takes the two files, grounds the task and builds the formula of the horizon (`formula`), and either has
+//! its text told or the proof judged that a `Tape` gives (both by proof_verdict). In memory are the formula, what was learned, and one line.
+//! `answer` has one function a command; for `model`, `model` has the values read and tested, and the steps that they stand for by the form.
+//! `ended` has how a run ends.
 #![tactic(auto)]
 
 mod answer;
@@ -17,10 +17,8 @@ mod formula;
 mod model;
 mod read;
 mod request;
-mod told;
 mod top;
 mod values;
-mod verdict;
 
 pub use ended::Ended;
 pub use plan_endings::Status;

@@ -8,7 +8,8 @@ ghost use Rattle.plan_tasks.specs.Stepping.{places_by};
 ghost use Rattle.step_encoding.specs.{Limits.most_literals, Numbers.literals_of};
 ghost use Rattle.sat_text.specs.Values.{Values as values_read};
 ghost use Rattle.sat_text.specs.Stands.{HasRead};
-ghost use Rattle.judge_top.specs.Answers.{TapeRun, tape_run, IsReadAs, OfKnown, IsTold, IsToldOf, IsBelow, IsGiven, IsTooMany, TellsTooMany};
+ghost use Rattle.proof_verdict.specs.Verdict.{TapeRun, tape_run};
+ghost use Rattle.judge_top.specs.Answers.{IsReadAs, OfKnown, IsTold, IsToldOf, IsBelow, IsGiven, IsTooMany, TellsTooMany};
 ghost use Rattle.horizon_rates.specs.Limits.{last_horizon};
 
 use crate::formula::formula_of;
@@ -19,6 +20,7 @@ use containers::memory::Memory;
 use gt_core::task::Task;
 use pl_io::{Reading, TakeError, Tape};
 use plan_endings::stop::Stop;
+use proof_verdict::verdict::PIECE;
 use requests::Stepping;
 use sat_text::first_false::first_false;
 use sat_text::value_reader::{Reader, Refused};
@@ -29,9 +31,6 @@ use step_encoding::form::StepForm;
 use step_encoding::placed::{Placed, Placing};
 use step_encoding::steps::Steps;
 use two_invariants::find;
-
-/// How many bytes a piece of a model's text has at most.
-const PIECE: usize = 65536;
 
 /// What was made of the text of a model.
 #[derive(Drop)]

@@ -15,8 +15,7 @@ ghost use Rattle.requests.specs.Fit.{IsFit};
 ghost use Rattle.requests.specs.Passed.{HasNumber, Passed};
 ghost use Rattle.requests.specs.Same.{IsSame};
 ghost use Rattle.judge_top.specs.Command.{command_of, named, steps_list};
-ghost use Rattle.judge_top.specs.Requested.{some_in};
-ghost use Rattle.judge_top.specs.Seen.{Seen, seen, horizon_of};
+ghost use Rattle.judge_top.specs.Seen.{Seen, seen, some_in, horizon_of};
 ghost use Rattle.horizon_rates.specs.Limits.{last_horizon};
 
 use crate::command::{Name, command_by, name_of, steps_reader};

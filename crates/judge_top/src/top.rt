@@ -8,7 +8,7 @@ ghost use Rattle.judge_top.specs.Requested.{requested, command_named};
 ghost use Rattle.judge_top.specs.Seen.{formulas, judges, models};
 ghost use Rattle.judge_top.specs.Ended.{status_of, text_of};
 ghost use Rattle.judge_top.specs.declared.ended.Ended.{Ended};
-ghost use Rattle.judge_top.specs.Answers.{tape_run};
+ghost use Rattle.proof_verdict.specs.Verdict.{tape_run};
 ghost use Rattle.judge_top.specs.Causes.{Comes, OfTaken, HasFault, names_in};
 ghost use Rattle.judge_top.specs.Headline.{IsProvedNone, PlanRunsIn, TellsFormula, WhenRead, OfVerdict, IsAccepted, IsRejected, IsNoProof, TellsModel, TellsNoModel, TellsNoText, OrNoTask};
 

@@ -18,9 +18,12 @@ use Rattle.never_defs.specs.Cases.{Case, cases_of}
 use Rattle.never_defs.specs.Forward.{IsCaseRefuted, GoalPassesForward, IsForwardCertificate}
 use Rattle.never_check.specs.Trail.{Reached}
 use Rattle.never_check.specs.Follow.{HasAll, AreBelow, Obeys, IsGrown, IsContradiction, AreUses}
-use Rattle.never_check.specs.Rules.{ObeysRules, ObeysWith, AreFollowed}
+use Rattle.never_check.specs.Rules.{ObeysRules, ObeysWith, AreFollowed, ArePlain}
+use Rattle.never_check.specs.Given.{AreGiven, AreGivenPlain}
+use Rattle.never_check.specs.declared.given.Given.{Given}
+use Rattle.gt_core.specs.Clauses.{KnownClauses}
 use Rattle.never_check.specs.Refuted.{IsContradicted, AreContradicted}
-use Rattle.never_check.specs.Verdicts.{IsBase, IsLeast, IsAssumed, AreCasesRefuted, ArePassed, DoesNotPass}
+use Rattle.never_check.specs.Verdicts.{IsBase, IsLeast, AreCasesRefuted, ArePassed, DoesNotPass}
 use Rattle.never_check.specs.declared.rules.Rules.{Rules}
 use Rattle.never_check.proofs.Grown.{front_in, grown_then, grown_by, either_way}
 use Rattle.never_check.proofs.Beginning.{each_map}
@@ -31,7 +34,7 @@ use Rattle.never_check.proofs.Following.{clause_number}
 pub trail_propagated : (rules : Rules) (base : ℕ → Bool) (tr : List ℕ) → AreFollowed rules tr tr → ((l : ℕ) → base l ≡ true → is_in tr l ≡ true) → IsPropagated rules.known.now.clauses rules.clauses.now base (is_in tr)
 trail_propagated rules base tr f given = record { given = given; full = record { given = tt; single = f.single; chain = f.chain }; unit = f.unit }
 
-module _ (rules : Rules) (x : Action) (trail : Reached) (is : IsAssumed rules x trail) where
+module _ (rules : Rules) (x : Action) (trail : Reached) (is : IsLeast rules x.precondition trail) where
   -- a case that is contradicted is refuted
   case_refuted : (q : Case) → IsContradicted rules [] trail.literals q → IsCaseRefuted rules.known.now.clauses rules.clauses.now x q
   case_refuted q k = λ set p none.
@@ -149,7 +152,7 @@ action_fits task a t lt = record {
 
 -- ---- what was told, in other words
 
-pub pair_told : (rules : Rules) (x : Action) (trail : Reached) → IsAssumed rules x trail → (more : List (List ℕ)) (c : List ℕ) (k : ℕ) (b : Bool) → more ≡ [] → slice_index_or rules.clauses.now k [] ≡ c
+pub pair_told : (rules : Rules) (x : Action) (trail : Reached) → IsLeast rules x.precondition trail → (more : List (List ℕ)) (c : List ℕ) (k : ℕ) (b : Bool) → more ≡ [] → slice_index_or rules.clauses.now k [] ≡ c
     → MatchBool b (AreContradicted rules more trail.literals (cases_of x c)) (AreContradicted rules more trail.literals (cases_of x c) → ⊥)
     → MatchBool b (AreCasesRefuted rules x k) (AreCasesRefuted rules x k → ⊥)
 pair_told rules x trail is more c k b none at told =
@@ -164,6 +167,16 @@ pair_told rules x trail is more c k b none at told =
 pub some_way : (P R : Type 0) (Q S : ℕ → Type 0) (o : Option ℕ) → is_some o ≡ true → ((k : ℕ) → Q k → S k) → MatchOption o P Q → MatchOption o R S
 some_way P R Q S None e f told = let z : false ≡ true = e in absurd (let w : ⊥ = cc in w)
 some_way P R Q S (Some k) e f told = f k told
+
+pub given_plain : (plain : Rules) (given : Given) → AreGiven given → ArePlain given.known.now plain → AreGivenPlain plain given
+given_plain plain given g p = record {
+  rules = p.rules;
+  none = p.none;
+  lawful = g.lawful;
+  facts = ap (λ (k : KnownClauses). k.facts) p.known ∙ g.facts;
+  few = g.few;
+  over = g.over;
+}
 
 pub begun_base : (rules : Rules) (trail : Reached) → trail.facts ≡ rules.known.now.facts → IsGrown (ObeysRules rules) [] trail.literals × AreFollowed rules trail.literals trail.literals → IsBase rules trail
 begun_base rules trail facts g = record {

@@ -9,7 +9,8 @@ use Rattle.gt_core.proofs.published.Basics.{Among, each_at}
 use Rattle.implied_literals.proofs.published.Steps.{opposite_below}
 use Rattle.implied_literals.specs.Rows.{HasNoPair}
 use Rattle.implied_literals.specs.Tested.{EffectFits}
-use Rattle.never_defs.specs.Cases.{Case, cases_of}
+use Rattle.gt_core.specs.Interference.{action_surely_makes}
+use Rattle.never_defs.specs.Cases.{Case, cases_of, none_makes}
 use Rattle.never_check.specs.Trail.{Reached}
 use Rattle.never_check.specs.Follow.{AreBelow}
 use Rattle.never_check.specs.Rules.{AreFollowed}
@@ -119,3 +120,29 @@ pub rest_same : (rules : Rules) (more : List (List ℕ)) (tr : List ℕ) (x : Ac
     → MatchBool b (AreContradicted rules more tr (cases_of x other)) (AreContradicted rules more tr (cases_of x other) → ⊥)
     → MatchBool b (AreContradicted rules more tr (cases_of x rest)) (AreContradicted rules more tr (cases_of x rest) → ⊥)
 rest_same rules more tr x rest other b e told = subst (λ (c : List ℕ). MatchBool b (AreContradicted rules more tr (cases_of x c)) (AreContradicted rules more tr (cases_of x c) → ⊥)) (sym e) told
+
+-- what is told at a place of the clause where no effect without a condition makes the opposite literal true: of the way in which it stays
+pub record IsToldPlace (pair : Pair) (place : ℕ) (more : List (List ℕ)) (tr : List ℕ) (b : Bool) : Type 0 where
+  pub within : place < length pair.clause.now
+  pub unsure : action_surely_makes pair.act.now (opposite (slice_index pair.clause.now place)) ≡ false
+  pub way :
+      MatchBool b
+      (IsWayContradicted pair.rules.now more tr (cases_of pair.act.now (drop (place + 1) pair.clause.now))
+      (record { literals = opposite (slice_index pair.clause.now place) ∷ []; clauses = none_makes pair.act.now (opposite (opposite (slice_index pair.clause.now place))) }))
+      (IsWayContradicted pair.rules.now more tr (cases_of pair.act.now (drop (place + 1) pair.clause.now))
+      (record { literals = opposite (slice_index pair.clause.now place) ∷ []; clauses = none_makes pair.act.now (opposite (opposite (slice_index pair.clause.now place))) }) → ⊥)
+
+pub place_told : (pair : Pair) (place : ℕ) (more : List (List ℕ)) (tr : List ℕ) → place < length pair.clause.now → (lit : ℕ) → lit ≡ opposite (slice_index pair.clause.now place) → (back : ℕ) → back ≡ opposite lit
+    → (none : List (List ℕ)) → none ≡ none_makes pair.act.now back → (sure : Bool) → sure ≡ action_surely_makes pair.act.now lit → sure ≡ false → (b : Bool)
+    → MatchBool b (IsWayContradicted pair.rules.now more tr (cases_of pair.act.now (drop (place + 1) pair.clause.now)) (record { literals = lit ∷ []; clauses = none }))
+    (IsWayContradicted pair.rules.now more tr (cases_of pair.act.now (drop (place + 1) pair.clause.now)) (record { literals = lit ∷ []; clauses = none }) → ⊥) → IsToldPlace pair place more tr b
+place_told pair place more tr lt lit is back turned none nones sure surely unsure b told =
+    let l = slice_index pair.clause.now place in
+    let x = pair.act.now in
+    record {
+      within = lt;
+      unsure = ap (action_surely_makes x) (sym is) ∙ sym surely ∙ unsure;
+      way =
+          way_same pair.rules.now more tr tr (cases_of x (drop (place + 1) pair.clause.now)) (lit ∷ []) (opposite l ∷ []) none (none_makes x (opposite (opposite l))) b refl (ap (λ (k : ℕ). k ∷ []) is)
+          (nones ∙ ap (none_makes x) (turned ∙ ap opposite is)) told;
+    }

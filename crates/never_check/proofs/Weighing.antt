@@ -1,9 +1,11 @@
 -- Sums of weights of literals that pass a test.
-use Rattle.std.proofs.Common.{arith, ◌≡◌, ◌+◌, ◌<◌, ◌≤◌, ℕ, List, [], length, take, get_or, Bool, true, false, refl}
+use Rattle.std.proofs.Common.{arith, ◌≡◌, ◌+◌, ◌*◌, ◌<◌, ◌≤◌, ℕ, List, [], length, take, get_or, Bool, true, false, refl, ap, sym, subst, ◌∙◌}
 use Rattle.std.specs.Prelude.{if◌then◌else◌, sum_by, MatchBool}
 use Rattle.std.proofs.Math.Dec.{leb, ltb}
 use Rattle.std.proofs.lemmas.Bool.{leb-true, leb-false, ltb-true, ltb-false}
 use Rattle.std.proofs.lemmas.List.Sums.{sum_by_more, sum_by-le-sum_by, sum_by_more_le_part}
+use Rattle.std.specs.List.{AllByRecursion}
+use Rattle.gt_core.specs.Clauses.{KnownClauses}
 use Rattle.gt_core.specs.Literal.{is_in}
 use Rattle.gt_core.specs.Task.{Action, Task, initial_state}
 use Rattle.gt_core.proofs.published.Basics.{apart}
@@ -11,7 +13,9 @@ use Rattle.never_defs.specs.Sets.{weight_of, weight_in}
 use Rattle.never_defs.specs.After.{comes_perhaps, goes_surely}
 use Rattle.never_defs.specs.Weights.{PassesWeights, GoalPassesWeights}
 use Rattle.never_check.specs.Trail.{Reached}
+use Rattle.never_check.specs.Rules.{ArePlain}
 use Rattle.never_check.specs.Verdicts.{IsLeast, AreRefuted}
+use Rattle.never_check.specs.WeightsVerdicts.{AreSummed}
 use Rattle.never_check.specs.declared.rules.Rules.{Rules}
 use Rattle.never_check.proofs.Least.{plain_refuted, plain_propagated, plain_least}
 use Rattle.never_check.proofs.Surely.{comes_less, goes_more}
@@ -41,6 +45,14 @@ module _ (p : ℕ → Bool) (weights : List (ℕ × ℕ)) (i : ℕ) (d : ℕ × 
       let all = sum_by_more_le_part (λ (w : ℕ × ℕ). if p w.0 then w.1 else 0) (λ (w : ℕ × ℕ). w.1) weights i d lt (λ w. part_fits (p w.0) w.1) in
       let part = part_fits (p (get_or weights i d).0) (get_or weights i d).1 in
       omega (arith, all, part)
+
+  -- the same of a sum so far and the next weight
+  pub next_fits : sum_by (λ (w : ℕ × ℕ). w.1) weights ≤ 9223372036854775807 → (sum : ℕ) → sum ≡ weight_of p (take i weights) → (b : Bool) → b ≡ p (get_or weights i d).0
+      → (here : ℕ) → here ≡ (if b then (get_or weights i d).1 else 0) → sum + here ≤ 9223372036854775807
+  next_fits total sum is b same here part =
+      let fits = one_fits in
+      let here_is = part ∙ ap (λ (c : Bool). if c then (get_or weights i d).1 else 0) same in
+      omega (arith, fits, total, is, here_is)
 
 -- what a comparison of two sums tells
 pub le_told : {P : Type 0} (m n : ℕ) → (m ≤ n → P) → ((m ≤ n → ⊥) → P → ⊥) → (b : Bool) → leb m n ≡ b → MatchBool b P (P → ⊥)
@@ -79,3 +91,11 @@ module _ (rules : Rules) (none : rules.clauses.now ≡ []) (weights : List (ℕ 
 
     pub never_there : AreRefuted rules task.goal → GoalPassesWeights task rules.known.now.clauses weights
     never_there refuted = λ hope set p apart_set. absurd (plain_refuted rules none task.goal refuted set p apart_set)
+
+-- weights over the facts of a task are over those of the rules
+pub summed_plain : (rules : Rules) (known : KnownClauses) → ArePlain known rules → (weights : List (ℕ × ℕ)) (facts : ℕ) → known.facts ≡ facts → AllByRecursion (λ w. w.0 < 2 * facts) weights
+    → sum_by (λ (w : ℕ × ℕ). w.1) weights ≤ 9223372036854775807 → AreSummed (2 * rules.known.now.facts) weights
+summed_plain rules known plain weights facts same over total = record {
+  over = subst (λ (k : ℕ). AllByRecursion (λ w. w.0 < 2 * k) weights) (sym (ap (λ (k : KnownClauses). k.facts) plain.known ∙ same)) over;
+  total = total;
+}

@@ -1,5 +1,5 @@
 -- What a check of a backward set comes to.
-use Rattle.std.specs.Prelude.{◌≡◌, ℕ, ◌<◌, List, [], ◌++◌, map, Bool, length, slice_index_or}
+use Rattle.std.specs.Prelude.{◌≡◌, ℕ, ◌<◌, List, [], ◌++◌, map, Bool, length, slice_index_or, Option, MatchOption}
 use Rattle.std.specs.List.{AllByRecursion}
 use Rattle.gt_core.specs.Literal.{opposite, is_in}
 use Rattle.gt_core.specs.Task.{Action, Task, action, initial_state}
@@ -8,9 +8,7 @@ use Rattle.never_defs.specs.Sets.{AreTrue}
 use Rattle.never_defs.specs.Propagation.{IsPropagated, IsRefuted}
 use Rattle.never_defs.specs.After.{holds_surely}
 use Rattle.never_defs.specs.Backward.{PassesBackward, GoalPassesBackward, IsBackwardCertificate}
-use Rattle.never_check.specs.Rules.{AreRules}
 use Rattle.never_check.specs.declared.rules.Rules.{Rules}
-use Rattle.never_check.specs.declared.backward.Sides.{Sides}
 use Rattle.never_check.specs.declared.backward.BackwardVerdict.{BackwardVerdict}
 use Rattle.never_check.specs.declared.backward.BackwardVerdict.TheVariants as verdict
 
@@ -28,16 +26,13 @@ ArePassedBackward rules x = AllByRecursion (PassesBackward rules.known.now.claus
 abbrev pub FailsBackward : Rules → Action → ℕ → Type 0
 FailsBackward rules x k = (k < length rules.clauses.now) × (PassesBackward rules.known.now.clauses rules.clauses.now x (slice_index_or rules.clauses.now k []) → ⊥)
 
--- by what literals are followed on both sides of a step
-pub record AreSides (sides : Sides) : Type 0 where
-  pub plain : AreRules sides.plain.now
-  pub whole : AreRules sides.whole.now
-  pub known : sides.plain.now.known.now ≡ sides.whole.now.known.now
-  pub none : sides.plain.now.clauses.now ≡ []
-
 -- each action passes at each clause
 abbrev pub AllStepsPass : Task → List (ℕ × ℕ) → List (List ℕ) → Type 0
 AllStepsPass task known clauses = (a : ℕ) → a < length task.actions → AllByRecursion (PassesBackward known clauses (action task a)) clauses
+
+-- whether an action passes at all clauses, or the number of one at which it does not
+abbrev pub TellsStep : Rules → Action → Option ℕ → Type 0
+TellsStep rules x o = MatchOption o (ArePassedBackward rules x) (FailsBackward rules x)
 
 -- at the clause with the first number the action with the second does not pass
 abbrev pub StepFails : Task → List (ℕ × ℕ) → List (List ℕ) → ℕ × ℕ → Type 0

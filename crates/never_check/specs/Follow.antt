@@ -1,5 +1,5 @@
 -- Following literals by clauses: what is added, and when nothing is left to follow.
-use Rattle.std.specs.Prelude.{◌≡◌, ℕ, ◌<◌, List, [], Bool, true, length, take, slice_index_or}
+use Rattle.std.specs.Prelude.{◌≡◌, ℕ, ◌<◌, List, [], Bool, true, length, take, slice_index_or, MatchBool}
 use Rattle.std.specs.List.{AllByRecursion}
 use Rattle.gt_core.specs.Literal.{opposite, is_in}
 use Rattle.gt_core.specs.Interference.{has_clause}
@@ -29,6 +29,10 @@ pub record IsGrown (rule : (ℕ → Bool) → Type 0) (old new : List ℕ) : Typ
 -- no set that has the literals and obeys a rule is without two opposite literals
 abbrev pub IsContradiction : ((ℕ → Bool) → Type 0) → List ℕ → Type 0
 IsContradiction rule old = (set : ℕ → Bool) → rule set → ((l : ℕ) → is_in old l ≡ true → set l ≡ true) → HasNoPair set → ⊥
+
+-- what is told by a test whether literals contradict others by a rule: they do, or the new literals are what it adds, and more holds
+abbrev pub Adds : ((ℕ → Bool) → Type 0) → List ℕ → List ℕ → Type 0 → Bool → Type 0
+Adds rule old new more b = MatchBool b (IsContradiction rule old) (IsGrown rule old new × more)
 
 -- the rule of known clauses and of others
 abbrev pub ObeysAll : List (ℕ × ℕ) → List (List ℕ) → (ℕ → Bool) → Type 0

@@ -5,6 +5,9 @@ pub mod Rules
 pub mod Refuted
 pub mod Pairs
 pub mod Verdicts
+pub mod Given
+pub mod Trials
+pub mod Steps
 pub mod Sure
 pub mod WeightsVerdicts
 pub mod BackwardVerdicts

@@ -1,15 +1,27 @@
 -- What literals are followed by.
-use Rattle.std.specs.Prelude.{ℕ, ◌*◌, List, Bool}
+use Rattle.std.specs.Prelude.{◌≡◌, ℕ, ◌*◌, List, [], Bool}
 use Rattle.std.specs.List.{AllByRecursion}
-use Rattle.gt_core.specs.Clauses.{IsKnownClauses}
+use Rattle.gt_core.specs.Clauses.{KnownClauses, IsKnownClauses}
 use Rattle.never_check.specs.Follow.{HasAll, AreBelow, AreUses, ObeysAll, IsFollowed}
 use Rattle.never_check.specs.declared.rules.Rules.{Rules}
+use Rattle.never_check.specs.declared.rules.Nothing.{Nothing}
 
 -- the clauses are over the facts of the known ones, and the numbers of those with each literal are listed
 pub record AreRules (rules : Rules) : Type 0 where
   pub known : IsKnownClauses rules.known.now
   pub over : AllByRecursion (AreBelow (2 * rules.known.now.facts)) rules.clauses.now
   pub uses : AreUses (2 * rules.known.now.facts) rules.clauses.now rules.uses.now
+
+-- no clauses, with a list for each literal of so many facts
+pub record IsNothing (facts : ℕ) (nothing : Nothing) : Type 0 where
+  pub none : nothing.clauses ≡ []
+  pub uses : AreUses (2 * facts) nothing.clauses nothing.uses.items
+
+-- they are these known clauses alone
+pub record ArePlain (pairs : KnownClauses) (plain : Rules) : Type 0 where
+  pub rules : AreRules plain
+  pub none : plain.clauses.now ≡ []
+  pub known : plain.known.now ≡ pairs
 
 -- a set of literals obeys them
 abbrev pub ObeysRules : Rules → (ℕ → Bool) → Type 0

@@ -1,5 +1,5 @@
 -- What a check comes to.
-use Rattle.std.specs.Prelude.{◌≡◌, ℕ, ◌<◌, List, [], Bool, false, length, slice_index_or}
+use Rattle.std.specs.Prelude.{◌≡◌, ℕ, ◌<◌, List, [], Bool, false, length, slice_index_or, Option, MatchBool, MatchOption}
 use Rattle.std.specs.List.{AllByRecursion}
 use Rattle.gt_core.specs.Literal.{is_in}
 use Rattle.gt_core.specs.Task.{Action, Task, action, initial_state}
@@ -38,13 +38,17 @@ AreRefuted rules given = IsRefuted rules.known.now.clauses rules.clauses.now (is
 abbrev pub HasLeast : Rules → List ℕ → Type 0
 HasLeast rules given = (trail : Reached) × IsLeast rules given trail
 
--- a trail has all that the rules tell of the precondition of an action
-abbrev pub IsAssumed : Rules → Action → Reached → Type 0
-IsAssumed rules x trail = IsLeast rules x.precondition trail
+-- a test tells whether something is so
+abbrev pub Decides : Type 0 → Bool → Type 0
+Decides P b = MatchBool b P (P → ⊥)
 
 -- each case of the clause with a number is refuted
 abbrev pub AreCasesRefuted : Rules → Action → ℕ → Type 0
 AreCasesRefuted rules x k = AllByRecursion (IsCaseRefuted rules.known.now.clauses rules.clauses.now x) (cases_of x (slice_index_or rules.clauses.now k []))
+
+-- each clause has something, or the number of one is told that has not
+abbrev pub AllOrOne : (List ℕ → Type 0) → List (List ℕ) → Option ℕ → Type 0
+AllOrOne P clauses o = MatchOption o (AllByRecursion P clauses) (λ k. (k < length clauses) × (P (slice_index_or clauses k []) → ⊥))
 
 -- an action passes at all clauses
 abbrev pub ArePassed : Rules → Action → Type 0
@@ -53,6 +57,10 @@ ArePassed rules x = AllByRecursion (PassesForward rules.known.now.clauses rules.
 -- it does not pass at the clause with a number
 abbrev pub DoesNotPass : Rules → Action → ℕ → Type 0
 DoesNotPass rules x k = (k < length rules.clauses.now) × (PassesForward rules.known.now.clauses rules.clauses.now x (slice_index_or rules.clauses.now k []) → ⊥)
+
+-- whether an action passes at all clauses, or the number of one at which it does not
+abbrev pub TellsPassed : Rules → Action → Option ℕ → Type 0
+TellsPassed rules x o = MatchOption o (ArePassed rules x) (DoesNotPass rules x)
 
 -- what a verdict says of a forward set
 abbrev pub IsForwardVerdict : Task → List (ℕ × ℕ) → List (List ℕ) → ForwardVerdict → Type 0

@@ -5,8 +5,7 @@ ghost use Rattle.std.specs.List.{list_all, list_any, AllByRecursion};
 ghost use Rattle.gt_core.specs.Literal.{opposite, is_in};
 ghost use Rattle.implied_literals.specs.Tested.{ActionFits};
 ghost use Rattle.never_defs.specs.After.{makes_surely, makes_perhaps, holds_surely, comes_perhaps, goes_surely};
-ghost use Rattle.never_check.specs.Follow.{AreBelow, HasAll};
-ghost use Rattle.never_check.specs.Sure.{IsSure};
+ghost use Rattle.never_check.specs.{Follow.AreBelow, Follow.HasAll, Sure.IsSure};
 
 use crate::trail::Trail;
 use containers::memory::Memory;

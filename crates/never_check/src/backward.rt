@@ -1,26 +1,22 @@
 //! The check of clauses that are read backward.
 
-ghost use Rattle.std.specs.Prelude.{◌≡◌, ℕ, ◌*◌, ◌<◌, ◌≤◌, ◌++◌, [], map, true, length, take, slice_index_or, IfOk, OnOk, MatchBool, MatchOption};
+ghost use Rattle.std.specs.Prelude.{◌≡◌, ℕ, ◌*◌, ◌<◌, ◌≤◌, ◌++◌, [], map, true, length, take, slice_index_or, IfOk, OnOk, MatchOption};
 ghost use Rattle.std.specs.List.{AllByRecursion};
-ghost use Rattle.gt_core.specs.Literal.{opposite, is_in};
-ghost use Rattle.gt_core.specs.Clauses.{IsKnownClauses};
-ghost use Rattle.gt_core.specs.Lawful.{is_task};
-ghost use Rattle.gt_core.specs.Task.{initial_state, action};
+ghost use Rattle.containers.specs.Limits.{certificate_bytes};
+ghost use Rattle.gt_core.specs.{Literal.opposite, Literal.is_in, Clauses.IsKnownClauses, Lawful.is_task, Task.initial_state, Task.action};
 ghost use Rattle.implied_literals.specs.Tested.{ActionFits};
-ghost use Rattle.never_defs.specs.Sets.{AreTrue};
-ghost use Rattle.never_defs.specs.Propagation.{IsRefuted};
-ghost use Rattle.never_defs.specs.After.{holds_surely};
-ghost use Rattle.never_defs.specs.Backward.{GoalPassesBackward};
-ghost use Rattle.never_check.specs.Follow.{AreBelow};
-ghost use Rattle.never_check.specs.Rules.{AreRules};
-ghost use Rattle.never_check.specs.Verdicts.{IsBase, IsLeast, AreRefuted};
-ghost use Rattle.never_check.specs.BackwardVerdicts.{IsStepRefuted, ArePassedBackward, FailsBackward, AreSides, AllStepsPass, StepFails, IsBackwardVerdict};
+ghost use Rattle.never_defs.specs.{Sets.AreTrue, Propagation.IsRefuted, After.holds_surely, Backward.GoalPassesBackward};
+ghost use Rattle.never_check.specs.{Follow.AreBelow, Rules.AreRules, Given.AreGiven, Given.AreGivenPlain, Verdicts.IsBase, Verdicts.IsLeast};
+ghost use Rattle.never_check.specs.{Verdicts.AreRefuted, Verdicts.AllOrOne, Verdicts.Decides, Steps.AreSides, Steps.IsBegunStep, Steps.IsAssumedStep, Steps.AreSame};
+ghost use Rattle.never_check.specs.{BackwardVerdicts.IsStepRefuted, BackwardVerdicts.ArePassedBackward, BackwardVerdicts.FailsBackward, BackwardVerdicts.TellsStep};
+ghost use Rattle.never_check.specs.{BackwardVerdicts.AllStepsPass, BackwardVerdicts.StepFails, BackwardVerdicts.IsBackwardVerdict};
 
 use crate::after::sure_after;
-use crate::begin::begin;
+use crate::begin::begun;
 use crate::forward::first_false;
+use crate::given::Given;
 use crate::refutes::{are_refuted, refutes};
-use crate::rules::Rules;
+use crate::rules::{Nothing, Rules};
 use crate::settle::turned;
 use crate::trail::Trail;
 use crate::uses::uses_of;
@@ -47,23 +43,18 @@ pub enum BackwardVerdict {
 /// The first clause that may be false where the goal holds, over a trail that has the goal. The trail is as it was.
 fn first_open(
     alloc: Global,
-    rules: &Rules,
-    task: &Task,
-    clauses: &FlatLists<u32>,
+    plain: &Rules,
+    given: &Given,
     trail: &mut Trail,
 ) -> Result<Option<u32>, Memory>
-    requires rules { AreRules rules.now }
-    requires few { length clauses.now ≤ 16777216 }
-    requires over { AllByRecursion (AreBelow (2 * rules.now.known.now.facts)) clauses.now }
-    requires goal { IsLeast rules.now task.now.goal trail.old }
+    requires goal { IsLeast plain.now given.now.task.now.goal trail.old }
+    requires given { AreGivenPlain plain.now given.now }
     ensures kept { OnOk result (trail.new ≡ trail.old) }
-    ensures told { IfOk result (λ o. MatchOption o
-        (AllByRecursion (λ c. AreRefuted rules.now (task.now.goal ++ map opposite c)) clauses.now)
-        (λ k. (k < length clauses.now) × (AreRefuted rules.now (task.now.goal ++ map opposite (slice_index_or clauses.now k [])) → ⊥))) }
+    ensures told { IfOk result (AllOrOne (λ c. AreRefuted plain.now (given.now.task.now.goal ++ map opposite c)) given.now.clauses.now) }
 {
-    for number in 0..clauses.len() {
-        let lits = turned(alloc, clauses.at(number))?;
-        if !are_refuted(rules, &lits, trail)? {
+    for number in 0..given.clauses.len() {
+        let lits = turned(alloc, given.clauses.at(number))?;
+        if !are_refuted(plain, &lits, trail)? {
             return Ok(Some(number as u32));
         }
     }
@@ -73,31 +64,23 @@ fn first_open(
 /// The first clause at which the goal does not pass. The trail may have grown.
 fn check_goal(
     alloc: Global,
-    rules: &Rules,
-    task: &Task,
-    clauses: &FlatLists<u32>,
+    plain: &Rules,
+    given: &Given,
     trail: &mut Trail,
 ) -> Result<Option<u32>, Memory>
-    requires rules { AreRules rules.now }
-    requires none { rules.now.clauses.now ≡ [] }
-    requires lawful { is_task task.now ≡ true }
-    requires facts { rules.now.known.now.facts ≡ task.now.facts }
-    requires few { length clauses.now ≤ 16777216 }
-    requires over { AllByRecursion (AreBelow (2 * rules.now.known.now.facts)) clauses.now }
-    requires base { IsBase rules.now trail.old }
+    requires given { AreGivenPlain plain.now given.now }
+    requires base { IsBase plain.now trail.old }
     ensures front { OnOk result (take (length trail.old.literals) trail.new.literals ≡ trail.old.literals) }
     ensures facts { OnOk result (trail.new.facts ≡ trail.old.facts) }
-    ensures told { IfOk result (λ o. MatchOption o
-        (AllByRecursion (GoalPassesBackward task.now rules.now.known.now.clauses) clauses.now)
-        (λ k. (k < length clauses.now) × (GoalPassesBackward task.now rules.now.known.now.clauses (slice_index_or clauses.now k []) → ⊥))) }
+    ensures told { IfOk result (AllOrOne (GoalPassesBackward given.now.task.now plain.now.known.now.clauses) given.now.clauses.now) }
 {
-    if task.hopeless() {
+    if given.task.hopeless() {
         return Ok(None);
     }
-    if refutes(rules, task.goal(), trail)? {
+    if refutes(plain, given.task.goal(), trail)? {
         return Ok(None);
     }
-    let open = first_open(alloc, rules, task, clauses, trail)?;
+    let open = first_open(alloc, plain, given, trail)?;
     Ok(open)
 }
 
@@ -114,9 +97,7 @@ fn refute_after(
     requires fits { ActionFits (2 * whole.now.known.now.facts) act.now }
     requires base { IsBase whole.now after.old }
     ensures kept { OnOk result (after.new ≡ after.old) }
-    ensures told { IfOk result (λ b. MatchBool b
-        (IsRefuted whole.now.known.now.clauses whole.now.clauses.now (holds_surely (is_in before.now.literals) act.now))
-        (IsRefuted whole.now.known.now.clauses whole.now.clauses.now (holds_surely (is_in before.now.literals) act.now) → ⊥)) }
+    ensures told { IfOk result (Decides (IsRefuted whole.now.known.now.clauses whole.now.clauses.now (holds_surely (is_in before.now.literals) act.now))) }
 {
     let sure = sure_after(alloc, before, act)?;
     let refuted = are_refuted(whole, &sure, after)?;
@@ -130,86 +111,59 @@ pub struct Sides<'a> {
     pub whole: &'a Rules<'a>,
 }
 
-/// Whether an action passes at a clause, over a trail that has its precondition. The first trail may have grown.
-fn refute_before(
-    alloc: Global,
-    sides: &Sides,
-    act: &Act,
-    number: u32,
-    before: &mut Trail,
-    after: &mut Trail,
-) -> Result<bool, Memory>
-    requires sides { AreSides sides.now }
-    requires fits { ActionFits (2 * sides.now.whole.now.known.now.facts) act.now }
-    requires number { number < length sides.now.whole.now.clauses.now }
-    requires assumed { IsLeast sides.now.plain.now act.now.precondition before.old }
-    requires base { IsBase sides.now.whole.now after.old }
-    ensures facts { OnOk result (before.new.facts ≡ before.old.facts) }
-    ensures front { OnOk result (take (length before.old.literals) before.new.literals ≡ before.old.literals) }
-    ensures kept { OnOk result (after.new ≡ after.old) }
-    ensures told { IfOk result (λ b. MatchBool b
-        (IsStepRefuted sides.now.whole.now act.now number)
-        (IsStepRefuted sides.now.whole.now act.now number → ⊥)) }
-{
-    let lits = turned(alloc, sides.whole.clauses.at(number as usize))?;
-    if refutes(sides.plain, &lits, before)? {
-        return Ok(true);
-    }
-    let refuted = refute_after(alloc, sides.whole, act, before, after)?;
-    Ok(refuted)
+/// An action that is tried, and what literals are followed by on both sides of it.
+#[derive(Drop)]
+pub struct Step<'a> {
+    pub alloc: Global,
+    pub sides: &'a Sides<'a>,
+    pub act: &'a Act,
 }
 
-/// The same, where both trails are as they were.
+/// Whether an action passes at a clause, over a trail that has its precondition. Both trails are as they were.
 fn refute_step(
-    alloc: Global,
-    sides: &Sides,
-    act: &Act,
+    step: &Step,
     number: u32,
     before: &mut Trail,
     after: &mut Trail,
 ) -> Result<bool, Memory>
-    requires sides { AreSides sides.now }
-    requires fits { ActionFits (2 * sides.now.whole.now.known.now.facts) act.now }
-    requires number { number < length sides.now.whole.now.clauses.now }
-    requires assumed { IsLeast sides.now.plain.now act.now.precondition before.old }
-    requires base { IsBase sides.now.whole.now after.old }
+    requires assumed { IsAssumedStep step.now before.old after.old }
+    requires number { number < length step.now.sides.now.whole.now.clauses.now }
     ensures before { OnOk result (before.new ≡ before.old) }
     ensures after { OnOk result (after.new ≡ after.old) }
-    ensures told { IfOk result (λ b. MatchBool b
-        (IsStepRefuted sides.now.whole.now act.now number)
-        (IsStepRefuted sides.now.whole.now act.now number → ⊥)) }
+    ensures told { IfOk result (Decides (IsStepRefuted step.now.sides.now.whole.now step.now.act.now number)) }
 {
     let from = before.len();
-    let refuted = refute_before(alloc, sides, act, number, before, after)?;
+    let whole = step.sides.whole;
+    let lits = turned(step.alloc, whole.clauses.at(number as usize))?;
+    if refutes(step.sides.plain, &lits, before)? {
+        before.go_back(from);
+        return Ok(true);
+    }
+    let refuted = refute_after(step.alloc, whole, step.act, before, after)?;
     before.go_back(from);
     Ok(refuted)
 }
 
 /// The number of a clause with a literal at which an action does not pass.
 fn check_uses(
-    alloc: Global,
-    sides: &Sides,
-    act: &Act,
+    step: &Step,
     lit: u32,
     before: &mut Trail,
     after: &mut Trail,
 ) -> Result<Option<u32>, Memory>
-    requires sides { AreSides sides.now }
-    requires fits { ActionFits (2 * sides.now.whole.now.known.now.facts) act.now }
-    requires lit { lit < 2 * sides.now.whole.now.known.now.facts }
-    requires assumed { IsLeast sides.now.plain.now act.now.precondition before.old }
-    requires base { IsBase sides.now.whole.now after.old }
+    requires assumed { IsAssumedStep step.now before.old after.old }
+    requires lit { lit < 2 * step.now.sides.now.whole.now.known.now.facts }
     ensures before { OnOk result (before.new ≡ before.old) }
     ensures after { OnOk result (after.new ≡ after.old) }
     ensures told { IfOk result (λ o. MatchOption o
-        ((k : ℕ) → is_in (slice_index_or sides.now.whole.now.uses.now lit []) k ≡ true
-        → IsStepRefuted sides.now.whole.now act.now k)
-        (λ k. (k < length sides.now.whole.now.clauses.now)
-        × (is_in (slice_index_or sides.now.whole.now.uses.now lit []) k ≡ true)
-        × (IsStepRefuted sides.now.whole.now act.now k → ⊥))) }
+        ((k : ℕ) → is_in (slice_index_or step.now.sides.now.whole.now.uses.now lit []) k ≡ true
+        → IsStepRefuted step.now.sides.now.whole.now step.now.act.now k)
+        (λ k. (k < length step.now.sides.now.whole.now.clauses.now)
+        × (is_in (slice_index_or step.now.sides.now.whole.now.uses.now lit []) k ≡ true)
+        × (IsStepRefuted step.now.sides.now.whole.now step.now.act.now k → ⊥))) }
 {
-    for number in sides.whole.uses[lit as usize].as_slice() {
-        if !refute_step(alloc, sides, act, *number, before, after)? {
+    for number in step.sides.whole.uses[lit as usize].as_slice() {
+        if !refute_step(step, *number, before, after)? {
             return Ok(Some(*number));
         }
     }
@@ -217,23 +171,13 @@ fn check_uses(
 }
 
 /// The number of a clause at which an action does not pass, over a trail that has its precondition.
-fn check_effects(
-    alloc: Global,
-    sides: &Sides,
-    act: &Act,
-    before: &mut Trail,
-    after: &mut Trail,
-) -> Result<Option<u32>, Memory>
-    requires sides { AreSides sides.now }
-    requires fits { ActionFits (2 * sides.now.whole.now.known.now.facts) act.now }
-    requires assumed { IsLeast sides.now.plain.now act.now.precondition before.old }
-    requires base { IsBase sides.now.whole.now after.old }
-    ensures before { OnOk result (before.new ≡ before.old) }
-    ensures after { OnOk result (after.new ≡ after.old) }
-    ensures told { IfOk result (λ o. MatchOption o (ArePassedBackward sides.now.whole.now act.now) (FailsBackward sides.now.whole.now act.now)) }
+fn check_effects(step: &Step, before: &mut Trail, after: &mut Trail) -> Result<Option<u32>, Memory>
+    requires { IsAssumedStep step.now before.old after.old }
+    ensures kept { OnOk result (AreSame before.new after.new before.old after.old) }
+    ensures told { IfOk result (TellsStep step.now.sides.now.whole.now step.now.act.now) }
 {
-    for effect in act.effects() {
-        let found = check_uses(alloc, sides, act, effect.lit(), before, after)?;
+    for effect in step.act.effects() {
+        let found = check_uses(step, effect.lit(), before, after)?;
         if found.is_some() {
             return Ok(found);
         }
@@ -241,57 +185,27 @@ fn check_effects(
     Ok(None)
 }
 
-/// The same, where the precondition is assumed first. The first trail may have grown.
-fn check_assumed(
-    alloc: Global,
-    sides: &Sides,
-    act: &Act,
-    before: &mut Trail,
-    after: &mut Trail,
-) -> Result<Option<u32>, Memory>
-    requires sides { AreSides sides.now }
-    requires fits { ActionFits (2 * sides.now.whole.now.known.now.facts) act.now }
-    requires plain { IsBase sides.now.plain.now before.old }
-    requires base { IsBase sides.now.whole.now after.old }
-    ensures facts { OnOk result (before.new.facts ≡ before.old.facts) }
-    ensures front { OnOk result (take (length before.old.literals) before.new.literals ≡ before.old.literals) }
-    ensures after { OnOk result (after.new ≡ after.old) }
-    ensures told { IfOk result (λ o. MatchOption o (ArePassedBackward sides.now.whole.now act.now) (FailsBackward sides.now.whole.now act.now)) }
-{
-    if refutes(sides.plain, act.pre(), before)? {
-        return Ok(None);
-    }
-    let found = check_effects(alloc, sides, act, before, after)?;
-    Ok(found)
-}
-
-/// The number of a clause at which an action does not pass. Both trails are as they were.
-fn check_action(
-    alloc: Global,
-    sides: &Sides,
-    act: &Act,
-    before: &mut Trail,
-    after: &mut Trail,
-) -> Result<Option<u32>, Memory>
-    requires sides { AreSides sides.now }
-    requires fits { ActionFits (2 * sides.now.whole.now.known.now.facts) act.now }
-    requires plain { IsBase sides.now.plain.now before.old }
-    requires base { IsBase sides.now.whole.now after.old }
-    ensures before { OnOk result (before.new ≡ before.old) }
-    ensures after { OnOk result (after.new ≡ after.old) }
-    ensures told { IfOk result (λ o. MatchOption o (ArePassedBackward sides.now.whole.now act.now) (FailsBackward sides.now.whole.now act.now)) }
+/// The same, where the precondition is assumed first. Both trails are as they were.
+fn check_action(step: &Step, before: &mut Trail, after: &mut Trail) -> Result<Option<u32>, Memory>
+    requires { IsBegunStep step.now before.old after.old }
+    ensures kept { OnOk result (AreSame before.new after.new before.old after.old) }
+    ensures told { IfOk result (TellsStep step.now.sides.now.whole.now step.now.act.now) }
 {
     let from = before.len();
-    let found = check_assumed(alloc, sides, act, before, after)?;
+    if refutes(step.sides.plain, step.act.pre(), before)? {
+        before.go_back(from);
+        return Ok(None);
+    }
+    let found = check_effects(step, before, after)?;
     before.go_back(from);
     Ok(found)
 }
 
 /// A clause and an action that does not pass at it.
-fn check_actions(
+fn check_actions<'a>(
     alloc: Global,
-    sides: &Sides,
-    task: &Task,
+    sides: &'a Sides<'a>,
+    task: &'a Task,
     before: &mut Trail,
     after: &mut Trail,
 ) -> Result<Option<(u32, u32)>, Memory>
@@ -305,7 +219,8 @@ fn check_actions(
         (λ p. (p.1 < length task.now.actions) × FailsBackward sides.now.whole.now (action task.now p.1) p.0)) }
 {
     for number in 0..task.acts().len() as u32 {
-        match check_action(alloc, sides, task.act(number), before, after)? {
+        let act = task.act(number);
+        match check_action(&Step { alloc, sides, act }, before, after)? {
             None => continue,
             Some(clause) => return Ok(Some((clause, number))),
         }
@@ -317,77 +232,63 @@ fn check_actions(
 fn check_steps(
     alloc: Global,
     plain: &Rules,
-    task: &Task,
-    clauses: &FlatLists<u32>,
+    given: &Given,
     before: &mut Trail,
 ) -> Result<Option<(u32, u32)>, Memory>
-    requires plain { AreRules plain.now }
-    requires none { plain.now.clauses.now ≡ [] }
-    requires lawful { is_task task.now ≡ true }
-    requires facts { plain.now.known.now.facts ≡ task.now.facts }
-    requires few { length clauses.now ≤ 16777216 }
-    requires over { AllByRecursion (AreBelow (2 * task.now.facts)) clauses.now }
+    requires given { AreGivenPlain plain.now given.now }
     requires base { IsBase plain.now before.old }
     ensures { IfOk result (λ o. MatchOption o
-        (AllStepsPass task.now plain.now.known.now.clauses clauses.now)
-        (StepFails task.now plain.now.known.now.clauses clauses.now)) }
+        (AllStepsPass given.now.task.now plain.now.known.now.clauses given.now.clauses.now)
+        (StepFails given.now.task.now plain.now.known.now.clauses given.now.clauses.now)) }
 {
-    let facts = task.facts();
-    let uses = uses_of(alloc, facts, clauses)?;
+    let uses = uses_of(alloc, given.task.facts(), given.clauses)?;
     let whole = Rules {
         known: plain.known,
-        clauses,
+        clauses: given.clauses,
         uses: &uses,
     };
-    let mut after = Trail::new(alloc, facts)?;
-    if begin(&whole, &mut after)? {
+    let Some(mut after) = begun(alloc, &whole)? else {
         return Ok(None);
-    }
+    };
     let sides = Sides {
         plain,
         whole: &whole,
     };
-    let found = check_actions(alloc, &sides, task, before, &mut after)?;
+    let found = check_actions(alloc, &sides, given.task, before, &mut after)?;
     Ok(found)
 }
 
-/// The check of clauses of which one is false in the initial state.
-fn check_kept(
-    alloc: Global,
-    task: &Task,
-    known: &Pairs,
-    clauses: &FlatLists<u32>,
-) -> Result<BackwardVerdict, Memory>
-    requires lawful { is_task task.now ≡ true }
-    requires facts { known.now.facts ≡ task.now.facts }
-    requires known { IsKnownClauses known.now }
-    requires few { length clauses.now ≤ 16777216 }
-    requires over { AllByRecursion (AreBelow (2 * task.now.facts)) clauses.now }
-    requires initial { AreTrue (initial_state task.now) clauses.now → ⊥ }
-    ensures { IfOk result (λ verdict. IsBackwardVerdict task.now known.now.clauses clauses.now verdict) }
+/// The check of clauses of which one is false in the initial state, by rules of the known clauses alone.
+fn check_plain(alloc: Global, plain: &Rules, given: &Given) -> Result<BackwardVerdict, Memory>
+    requires given { AreGivenPlain plain.now given.now }
+    requires initial { AreTrue (initial_state given.now.task.now) given.now.clauses.now → ⊥ }
+    ensures { IfOk result (IsBackwardVerdict given.now.task.now plain.now.known.now.clauses given.now.clauses.now) }
 {
-    let facts = task.facts();
-    let none = FlatLists::new(alloc);
-    let uses = uses_of(alloc, facts, &none)?;
-    let plain = Rules {
-        known,
-        clauses: &none,
-        uses: &uses,
-    };
-    let mut trail = Trail::new(alloc, facts)?;
-    if begin(&plain, &mut trail)? {
+    let Some(mut trail) = begun(alloc, plain)? else {
         return Ok(BackwardVerdict::Accepted);
-    }
+    };
     let from = trail.len();
-    let open = check_goal(alloc, &plain, task, clauses, &mut trail)?;
+    let open = check_goal(alloc, plain, given, &mut trail)?;
     if let Some(number) = open {
         return Ok(BackwardVerdict::Goal(number));
     }
     trail.go_back(from);
-    match check_steps(alloc, &plain, task, clauses, &mut trail)? {
+    match check_steps(alloc, plain, given, &mut trail)? {
         None => Ok(BackwardVerdict::Accepted),
         Some((clause, action)) => Ok(BackwardVerdict::Pair(clause, action)),
     }
+}
+
+/// The same, where these rules are made here.
+fn check_kept(alloc: Global, given: &Given) -> Result<BackwardVerdict, Memory>
+    requires given { AreGiven given.now }
+    requires initial { AreTrue (initial_state given.now.task.now) given.now.clauses.now → ⊥ }
+    ensures { IfOk result (IsBackwardVerdict given.now.task.now given.now.known.now.clauses given.now.clauses.now) }
+{
+    let nothing = Nothing::new(alloc, given.task.facts())?;
+    let plain = nothing.rules(given.known);
+    let verdict = check_plain(alloc, &plain, given)?;
+    Ok(verdict)
 }
 
 /// The check of clauses as a backward set of a task, under its known clauses.
@@ -400,15 +301,18 @@ pub fn check_backward(
     requires lawful { is_task task.now ≡ true }
     requires facts { known.now.facts ≡ task.now.facts }
     requires known { IsKnownClauses known.now }
-    requires few { length clauses.now ≤ 16777216 }
+    requires few { length clauses.now ≤ certificate_bytes }
     requires over { AllByRecursion (AreBelow (2 * task.now.facts)) clauses.now }
     ensures { IfOk result (λ verdict. IsBackwardVerdict task.now known.now.clauses clauses.now verdict) }
 {
-    match first_false(task, clauses) {
-        None => Ok(BackwardVerdict::Initial),
-        Some(_) => {
-            let verdict = check_kept(alloc, task, known, clauses)?;
-            Ok(verdict)
-        }
+    if first_false(task, clauses).is_none() {
+        return Ok(BackwardVerdict::Initial);
     }
+    let given = Given {
+        task,
+        known,
+        clauses,
+    };
+    let verdict = check_kept(alloc, &given)?;
+    Ok(verdict)
 }

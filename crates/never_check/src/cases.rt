@@ -1,15 +1,10 @@
 //! The cases in which a clause is false after an action, looked through one way after another.
 
-ghost use Rattle.std.specs.Prelude.{◌≡◌, ℕ, ◌+◌, ◌*◌, ◌<◌, ◌≤◌, ◌++◌, [], ◌∷◌, true, length, take, drop, map, IfOk, OnOk, MatchBool, slice_index};
+ghost use Rattle.std.specs.Prelude.{◌≡◌, ◌*◌, length, take, slice_index, IfOk, OnOk};
+ghost use Rattle.gt_core.specs.Literal.{opposite};
 ghost use Rattle.std.specs.List.{AllByRecursion};
-ghost use Rattle.gt_core.specs.Literal.{opposite, is_in};
-ghost use Rattle.implied_literals.specs.Rows.{HasNoPair};
-ghost use Rattle.implied_literals.specs.Tested.{ActionFits};
-ghost use Rattle.never_defs.specs.Cases.{Case, cases_of, ways_of, if_made, none_makes, conditions_of};
-ghost use Rattle.never_check.specs.Follow.{AreBelow};
-ghost use Rattle.never_check.specs.Rules.{AreFollowed};
-ghost use Rattle.never_check.specs.Refuted.{AreContradicted, IsWayContradicted};
-ghost use Rattle.never_check.specs.Pairs.{IsPairOf, IsReady};
+ghost use Rattle.never_defs.specs.Cases.{conditions_of};
+ghost use Rattle.never_check.specs.{Follow.AreBelow, Verdicts.Decides, Pairs.IsAt, Pairs.IsPlace, Pairs.AreLeftRefuted, Pairs.IsWayRefuted, Pairs.made_at};
 
 use crate::begin::assume;
 use crate::rules::Rules;
@@ -24,6 +19,7 @@ use std::alloc::Global;
 /// An action and a clause, and what literals are followed by.
 #[derive(Drop)]
 pub struct Pair<'a> {
+    pub alloc: Global,
     pub rules: &'a Rules<'a>,
     pub act: &'a Act,
     pub clause: &'a [u32],
@@ -36,34 +32,36 @@ pub struct Held<'a> {
     pub from: usize,
 }
 
+/// A place of the clause, and the clauses which say that no effect makes the literal there true.
+#[derive(Drop)]
+pub struct At<'a> {
+    pub pair: &'a Pair<'a>,
+    pub place: usize,
+    pub none: &'a FlatLists<u32>,
+}
+
 /// Whether each case of the literals of the clause from a place on is contradicted. Where the ways part at
 /// the place, what is known already is settled first: often no way is left.
 #[cycle(refute)]
 pub fn refute_from(
-    alloc: Global,
     pair: &Pair,
     place: usize,
     held: &Held,
     trail: &mut Trail,
 ) -> Result<bool, Memory>
-    requires pair { IsPairOf pair.now }
-    requires place { place ≤ length pair.now.clause.now }
-    requires ready { IsReady pair.now held.now trail.old }
+    requires { IsAt pair.now place held.now trail.old }
     ensures facts { OnOk result (trail.new.facts ≡ trail.old.facts) }
     ensures front { OnOk result (take (length trail.old.literals) trail.new.literals ≡ trail.old.literals) }
-    ensures told { IfOk result (λ b. MatchBool b
-        (AreContradicted pair.now.rules.now held.now.more.now trail.old.literals (cases_of pair.now.act.now (drop place pair.now.clause.now)))
-        (AreContradicted pair.now.rules.now held.now.more.now trail.old.literals (cases_of pair.now.act.now (drop place pair.now.clause.now)) → ⊥)) }
+    ensures told { IfOk result (Decides (AreLeftRefuted pair.now place held.now trail.old)) }
 {
     if place == pair.clause.len() || !parts(pair.act, opposite(pair.clause[place])) {
-        let refuted = refute_ways(alloc, pair, place, held, trail)?;
+        let refuted = refute_ways(pair, place, held, trail)?;
         return Ok(refuted);
     }
     if settle(pair.rules, held.more, trail, held.from)? {
         return Ok(true);
     }
     let refuted = refute_ways(
-        alloc,
         pair,
         place,
         &Held {
@@ -77,66 +75,48 @@ pub fn refute_from(
 
 /// The same, way by way.
 #[cycle(refute)]
-fn refute_ways(
-    alloc: Global,
-    pair: &Pair,
-    place: usize,
-    held: &Held,
-    trail: &mut Trail,
-) -> Result<bool, Memory>
-    requires pair { IsPairOf pair.now }
-    requires place { place ≤ length pair.now.clause.now }
-    requires ready { IsReady pair.now held.now trail.old }
+fn refute_ways(pair: &Pair, place: usize, held: &Held, trail: &mut Trail) -> Result<bool, Memory>
+    requires { IsAt pair.now place held.now trail.old }
     ensures facts { OnOk result (trail.new.facts ≡ trail.old.facts) }
     ensures front { OnOk result (take (length trail.old.literals) trail.new.literals ≡ trail.old.literals) }
-    ensures told { IfOk result (λ b. MatchBool b
-        (AreContradicted pair.now.rules.now held.now.more.now trail.old.literals (cases_of pair.now.act.now (drop place pair.now.clause.now)))
-        (AreContradicted pair.now.rules.now held.now.more.now trail.old.literals (cases_of pair.now.act.now (drop place pair.now.clause.now)) → ⊥)) }
+    ensures told { IfOk result (Decides (AreLeftRefuted pair.now place held.now trail.old)) }
 {
     if place == pair.clause.len() {
         let refuted = settle(pair.rules, held.more, trail, held.from)?;
         return Ok(refuted);
     }
     let lit = opposite(pair.clause[place]);
-    let none = none_makes(alloc, pair.act, opposite(lit))?;
+    let none = none_makes(pair.alloc, pair.act, opposite(lit))?;
+    let at = At {
+        pair,
+        place,
+        none: &none,
+    };
     if surely_makes(pair.act, lit) {
-        let refuted = refute_made(alloc, pair, place, &[], &none, held, trail)?;
+        let refuted = refute_made(&at, &[], held, trail)?;
         return Ok(refuted);
     }
-    if !refute_way(alloc, pair, place, &[lit], &none, held, trail)? {
+    if !refute_way(&at, &[lit], &none, held, trail)? {
         return Ok(false);
     }
-    let refuted = refute_conditions(alloc, pair, place, &none, held, trail)?;
+    let refuted = refute_conditions(&at, held, trail)?;
     Ok(refuted)
 }
 
 /// Whether each case is contradicted in which an effect made the opposite of the literal at a place, by each of its conditions.
 #[cycle(refute)]
-fn refute_conditions(
-    alloc: Global,
-    pair: &Pair,
-    place: usize,
-    none: &FlatLists<u32>,
-    held: &Held,
-    trail: &mut Trail,
-) -> Result<bool, Memory>
-    requires pair { IsPairOf pair.now }
-    requires place { place < length pair.now.clause.now }
-    requires none { none.now ≡ none_makes pair.now.act.now (opposite (opposite (slice_index pair.now.clause.now place))) }
-    requires ready { IsReady pair.now held.now trail.old }
+fn refute_conditions(at: &At, held: &Held, trail: &mut Trail) -> Result<bool, Memory>
+    requires { IsPlace at.now held.now trail.old }
     ensures kept { OnOk result (trail.new ≡ trail.old) }
-    ensures told { IfOk result (λ b. MatchBool b
-        (AllByRecursion (λ c. IsWayContradicted pair.now.rules.now held.now.more.now trail.old.literals (cases_of pair.now.act.now (drop (place + 1) pair.now.clause.now))
-        (record { literals = c; clauses = if_made pair.now.act.now (opposite (slice_index pair.now.clause.now place)) })) (conditions_of pair.now.act.now (opposite (slice_index pair.now.clause.now place))))
-        (AllByRecursion (λ c. IsWayContradicted pair.now.rules.now held.now.more.now trail.old.literals (cases_of pair.now.act.now (drop (place + 1) pair.now.clause.now))
-        (record { literals = c; clauses = if_made pair.now.act.now (opposite (slice_index pair.now.clause.now place)) })) (conditions_of pair.now.act.now (opposite (slice_index pair.now.clause.now place))) → ⊥)) }
+    ensures told { IfOk result (Decides
+        (AllByRecursion (λ c. IsWayRefuted at.now held.now trail.old (made_at at.now c)) (conditions_of at.now.pair.now.act.now (opposite (slice_index at.now.pair.now.clause.now at.now.place))))) }
 {
-    let lit = opposite(pair.clause[place]);
-    for effect in pair.act.effects() {
+    let lit = opposite(at.pair.clause[at.place]);
+    for effect in at.pair.act.effects() {
         if effect.lit() != lit {
             continue;
         }
-        if !refute_made(alloc, pair, place, effect.cond(), none, held, trail)? {
+        if !refute_made(at, effect.cond(), held, trail)? {
             return Ok(false);
         }
     }
@@ -145,40 +125,17 @@ fn refute_conditions(
 
 /// Whether each case is contradicted in which an effect with this condition made the opposite of the literal at a place.
 #[cycle(refute)]
-fn refute_made(
-    alloc: Global,
-    pair: &Pair,
-    place: usize,
-    cond: &[u32],
-    none: &FlatLists<u32>,
-    held: &Held,
-    trail: &mut Trail,
-) -> Result<bool, Memory>
-    requires pair { IsPairOf pair.now }
-    requires place { place < length pair.now.clause.now }
+fn refute_made(at: &At, cond: &[u32], held: &Held, trail: &mut Trail) -> Result<bool, Memory>
+    requires at { IsPlace at.now held.now trail.old }
     requires cond { AreBelow (2 * trail.old.facts) cond.now }
-    requires none { none.now ≡ none_makes pair.now.act.now (opposite (opposite (slice_index pair.now.clause.now place))) }
-    requires ready { IsReady pair.now held.now trail.old }
     ensures kept { OnOk result (trail.new ≡ trail.old) }
-    ensures told { IfOk result (λ b. MatchBool b
-        (IsWayContradicted pair.now.rules.now held.now.more.now trail.old.literals (cases_of pair.now.act.now (drop (place + 1) pair.now.clause.now))
-        (record { literals = cond.now; clauses = if_made pair.now.act.now (opposite (slice_index pair.now.clause.now place)) }))
-        (IsWayContradicted pair.now.rules.now held.now.more.now trail.old.literals (cases_of pair.now.act.now (drop (place + 1) pair.now.clause.now))
-        (record { literals = cond.now; clauses = if_made pair.now.act.now (opposite (slice_index pair.now.clause.now place)) }) → ⊥)) }
+    ensures told { IfOk result (Decides (IsWayRefuted at.now held.now trail.old (made_at at.now cond.now))) }
 {
-    if opposite(pair.clause[place]) % 2 == 0 {
-        let refuted = refute_way(
-            alloc,
-            pair,
-            place,
-            cond,
-            &FlatLists::new(alloc),
-            held,
-            trail,
-        )?;
+    if opposite(at.pair.clause[at.place]) % 2 == 0 {
+        let refuted = refute_way(at, cond, &FlatLists::new(at.pair.alloc), held, trail)?;
         return Ok(refuted);
     }
-    let refuted = refute_way(alloc, pair, place, cond, none, held, trail)?;
+    let refuted = refute_way(at, cond, at.none, held, trail)?;
     Ok(refuted)
 }
 
@@ -186,69 +143,38 @@ fn refute_made(
 /// is as it was.
 #[cycle(refute)]
 fn refute_way(
-    alloc: Global,
-    pair: &Pair,
-    place: usize,
+    at: &At,
     literals: &[u32],
     clauses: &FlatLists<u32>,
     held: &Held,
     trail: &mut Trail,
 ) -> Result<bool, Memory>
-    requires pair { IsPairOf pair.now }
-    requires place { place < length pair.now.clause.now }
+    requires at { IsPlace at.now held.now trail.old }
     requires literals { AreBelow (2 * trail.old.facts) literals.now }
     requires clauses { AllByRecursion (AreBelow (2 * trail.old.facts)) clauses.now }
-    requires ready { IsReady pair.now held.now trail.old }
     ensures kept { OnOk result (trail.new ≡ trail.old) }
-    ensures told { IfOk result (λ b. MatchBool b
-        (IsWayContradicted pair.now.rules.now held.now.more.now trail.old.literals (cases_of pair.now.act.now (drop (place + 1) pair.now.clause.now)) (record { literals = literals.now; clauses = clauses.now }))
-        (IsWayContradicted pair.now.rules.now held.now.more.now trail.old.literals (cases_of pair.now.act.now (drop (place + 1) pair.now.clause.now)) (record { literals = literals.now; clauses = clauses.now }) → ⊥)) }
+    ensures told { IfOk result (Decides (IsWayRefuted at.now held.now trail.old (record { literals = literals.now; clauses = clauses.now }))) }
 {
     let len = trail.len();
-    let refuted = refute_assumed(alloc, pair, place, literals, clauses, held, trail)?;
-    trail.go_back(len);
-    Ok(refuted)
-}
-
-/// The same, where the trail may have grown.
-#[cycle(refute)]
-fn refute_assumed(
-    alloc: Global,
-    pair: &Pair,
-    place: usize,
-    literals: &[u32],
-    clauses: &FlatLists<u32>,
-    held: &Held,
-    trail: &mut Trail,
-) -> Result<bool, Memory>
-    requires pair { IsPairOf pair.now }
-    requires place { place < length pair.now.clause.now }
-    requires literals { AreBelow (2 * trail.old.facts) literals.now }
-    requires clauses { AllByRecursion (AreBelow (2 * trail.old.facts)) clauses.now }
-    requires ready { IsReady pair.now held.now trail.old }
-    ensures facts { OnOk result (trail.new.facts ≡ trail.old.facts) }
-    ensures front { OnOk result (take (length trail.old.literals) trail.new.literals ≡ trail.old.literals) }
-    ensures told { IfOk result (λ b. MatchBool b
-        (IsWayContradicted pair.now.rules.now held.now.more.now trail.old.literals (cases_of pair.now.act.now (drop (place + 1) pair.now.clause.now)) (record { literals = literals.now; clauses = clauses.now }))
-        (IsWayContradicted pair.now.rules.now held.now.more.now trail.old.literals (cases_of pair.now.act.now (drop (place + 1) pair.now.clause.now)) (record { literals = literals.now; clauses = clauses.now }) → ⊥)) }
-{
     if assume(trail, literals)? {
+        trail.go_back(len);
         return Ok(true);
     }
     if clauses.len() == 0 {
-        let refuted = refute_from(alloc, pair, place + 1, held, trail)?;
+        let refuted = refute_from(at.pair, at.place + 1, held, trail)?;
+        trail.go_back(len);
         return Ok(refuted);
     }
-    let more = joined(held.more, clauses, alloc)?;
+    let more = joined(held.more, clauses, at.pair.alloc)?;
     let refuted = refute_from(
-        alloc,
-        pair,
-        place + 1,
+        at.pair,
+        at.place + 1,
         &Held {
             more: &more,
             from: held.from,
         },
         trail,
     )?;
+    trail.go_back(len);
     Ok(refuted)
 }

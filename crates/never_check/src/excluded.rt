@@ -1,22 +1,14 @@
 //! By what a goal is excluded without any certificate.
 
 ghost use Rattle.std.specs.Prelude.{◌≡◌, ◌*◌, ◌<◌, ◌++◌, [], ◌∷◌, true, false, length, take, IfOk, OnOk, MatchOption};
-ghost use Rattle.gt_core.specs.Literal.{is_in};
-ghost use Rattle.gt_core.specs.Clauses.{IsKnownClauses};
-ghost use Rattle.gt_core.specs.Interference.{Knows};
-ghost use Rattle.gt_core.specs.Lawful.{is_task};
-ghost use Rattle.gt_core.specs.Task.{initial_state};
-ghost use Rattle.never_check.specs.Follow.{AreBelow};
-ghost use Rattle.never_check.specs.Rules.{AreRules};
-ghost use Rattle.never_check.specs.Verdicts.{IsBase, AreRefuted, HasLeast};
-ghost use Rattle.never_check.specs.Exclusions.{IsFirstRefuted, IsExclusion};
+ghost use Rattle.gt_core.specs.{Literal.is_in, Clauses.IsKnownClauses, Interference.Knows, Lawful.is_task, Task.initial_state};
+ghost use Rattle.never_check.specs.{Follow.AreBelow, Rules.AreRules, Verdicts.IsBase, Verdicts.AreRefuted, Verdicts.HasLeast, Exclusions.IsFirstRefuted};
+ghost use Rattle.never_check.specs.{Exclusions.IsExclusion};
 
-use crate::begin::begin;
+use crate::begin::begun;
 use crate::refutes::{are_refuted, refutes};
-use crate::rules::Rules;
+use crate::rules::{Nothing, Rules};
 use crate::trail::Trail;
-use crate::uses::uses_of;
-use containers::FlatLists;
 use containers::memory::Memory;
 use gt_core::pairs::Pairs;
 use gt_core::task::Task;
@@ -122,18 +114,11 @@ pub fn excluded_goal(alloc: Global, task: &Task, known: &Pairs) -> Result<Exclus
     if task.hopeless() {
         return Ok(Exclusion::Hopeless);
     }
-    let facts = task.facts();
-    let none = FlatLists::new(alloc);
-    let uses = uses_of(alloc, facts, &none)?;
-    let rules = Rules {
-        known,
-        clauses: &none,
-        uses: &uses,
-    };
-    let mut trail = Trail::new(alloc, facts)?;
-    if begin(&rules, &mut trail)? {
+    let nothing = Nothing::new(alloc, task.facts())?;
+    let rules = nothing.rules(known);
+    let Some(mut trail) = begun(alloc, &rules)? else {
         unreachable!()
-    }
+    };
     let by = excluded_by(&rules, task, &mut trail)?;
     Ok(by)
 }

@@ -1,20 +1,16 @@
 //! The check of clauses that are read forward.
 
-ghost use Rattle.std.specs.Prelude.{◌≡◌, ℕ, ◌*◌, ◌<◌, ◌≤◌, [], true, false, length, take, slice_index_or, IfOk, OnOk, MatchBool, MatchOption};
+ghost use Rattle.std.specs.Prelude.{◌≡◌, ℕ, ◌*◌, ◌<◌, ◌≤◌, [], true, false, length, slice_index_or, IfOk, OnOk, MatchOption};
 ghost use Rattle.std.specs.List.{AllByRecursion};
-ghost use Rattle.gt_core.specs.Literal.{opposite, is_in};
-ghost use Rattle.gt_core.specs.Clauses.{IsKnownClauses};
-ghost use Rattle.gt_core.specs.Lawful.{is_task};
-ghost use Rattle.gt_core.specs.Task.{initial_state, action};
-ghost use Rattle.implied_literals.specs.Tested.{ActionFits};
-ghost use Rattle.never_defs.specs.Sets.{is_true_in, AreTrue};
-ghost use Rattle.never_defs.specs.Forward.{GoalPassesForward};
-ghost use Rattle.never_check.specs.Follow.{AreBelow};
-ghost use Rattle.never_check.specs.Rules.{AreRules};
-ghost use Rattle.never_check.specs.Verdicts.{IsBase, IsAssumed, AreCasesRefuted, ArePassed, DoesNotPass, IsForwardVerdict};
+ghost use Rattle.containers.specs.Limits.{certificate_bytes};
+ghost use Rattle.gt_core.specs.{Literal.is_in, Clauses.IsKnownClauses, Lawful.is_task, Task.initial_state, Task.action};
+ghost use Rattle.never_defs.specs.{Sets.is_true_in, Sets.AreTrue, Forward.GoalPassesForward};
+ghost use Rattle.never_check.specs.{Follow.AreBelow, Rules.AreRules, Given.AreGiven, Verdicts.IsBase, Verdicts.Decides, Verdicts.AreCasesRefuted};
+ghost use Rattle.never_check.specs.{Verdicts.ArePassed, Verdicts.DoesNotPass, Verdicts.TellsPassed, Verdicts.IsForwardVerdict, Trials.IsBegun, Trials.IsAssumed};
 
-use crate::begin::begin;
+use crate::begin::begun;
 use crate::cases::{Held, Pair, refute_from};
+use crate::given::Given;
 use crate::refutes::refutes;
 use crate::rules::Rules;
 use crate::trail::Trail;
@@ -70,58 +66,48 @@ pub fn first_false(task: &Task, clauses: &FlatLists<u32>) -> Option<usize>
     None
 }
 
+/// An action that is tried, and what literals are followed by.
+#[derive(Drop)]
+pub struct Trial<'a> {
+    pub alloc: Global,
+    pub rules: &'a Rules<'a>,
+    pub act: &'a Act,
+}
+
 /// Whether each case of a clause is refuted, over what was assumed. The trail is as it was.
-fn refute_pair(
-    alloc: Global,
-    rules: &Rules,
-    act: &Act,
-    number: u32,
-    trail: &mut Trail,
-) -> Result<bool, Memory>
-    requires rules { AreRules rules.now }
-    requires fits { ActionFits (2 * rules.now.known.now.facts) act.now }
-    requires number { number < length rules.now.clauses.now }
-    requires assumed { IsAssumed rules.now act.now trail.old }
+fn refute_pair(trial: &Trial, number: u32, trail: &mut Trail) -> Result<bool, Memory>
+    requires assumed { IsAssumed trial.now trail.old }
+    requires number { number < length trial.now.rules.now.clauses.now }
     ensures kept { OnOk result (trail.new ≡ trail.old) }
-    ensures told { IfOk result (λ b. MatchBool b
-        (AreCasesRefuted rules.now act.now number)
-        (AreCasesRefuted rules.now act.now number → ⊥)) }
+    ensures told { IfOk result (Decides (AreCasesRefuted trial.now.rules.now trial.now.act.now number)) }
 {
     let from = trail.len();
-    let more = FlatLists::new(alloc);
+    let more = FlatLists::new(trial.alloc);
     let pair = Pair {
-        rules,
-        act,
-        clause: rules.clauses.at(number as usize),
+        alloc: trial.alloc,
+        rules: trial.rules,
+        act: trial.act,
+        clause: trial.rules.clauses.at(number as usize),
     };
     let held = Held { more: &more, from };
-    let refuted = refute_from(alloc, &pair, 0, &held, trail)?;
+    let refuted = refute_from(&pair, 0, &held, trail)?;
     trail.go_back(from);
     Ok(refuted)
 }
 
 /// The number of a clause with a literal at which an action does not pass.
-fn check_uses(
-    alloc: Global,
-    rules: &Rules,
-    act: &Act,
-    lit: u32,
-    trail: &mut Trail,
-) -> Result<Option<u32>, Memory>
-    requires rules { AreRules rules.now }
-    requires fits { ActionFits (2 * rules.now.known.now.facts) act.now }
-    requires lit { lit < 2 * rules.now.known.now.facts }
-    requires assumed { IsAssumed rules.now act.now trail.old }
+fn check_uses(trial: &Trial, lit: u32, trail: &mut Trail) -> Result<Option<u32>, Memory>
+    requires assumed { IsAssumed trial.now trail.old }
+    requires lit { lit < 2 * trial.now.rules.now.known.now.facts }
     ensures kept { OnOk result (trail.new ≡ trail.old) }
     ensures told { IfOk result (λ o. MatchOption o
-        ((k : ℕ) → is_in (slice_index_or rules.now.uses.now lit []) k ≡ true
-        → AreCasesRefuted rules.now act.now k)
-        (λ k. (k < length rules.now.clauses.now)
-        × (is_in (slice_index_or rules.now.uses.now lit []) k ≡ true)
-        × (AreCasesRefuted rules.now act.now k → ⊥))) }
+        ((k : ℕ) → is_in (slice_index_or trial.now.rules.now.uses.now lit []) k ≡ true → AreCasesRefuted trial.now.rules.now trial.now.act.now k)
+        (λ k. (k < length trial.now.rules.now.clauses.now)
+        × (is_in (slice_index_or trial.now.rules.now.uses.now lit []) k ≡ true)
+        × (AreCasesRefuted trial.now.rules.now trial.now.act.now k → ⊥))) }
 {
-    for number in rules.uses[lit as usize].as_slice() {
-        if !refute_pair(alloc, rules, act, *number, trail)? {
+    for number in trial.rules.uses[lit as usize].as_slice() {
+        if !refute_pair(trial, *number, trail)? {
             return Ok(Some(*number));
         }
     }
@@ -129,20 +115,13 @@ fn check_uses(
 }
 
 /// The number of a clause at which an action does not pass, over a trail that has its precondition.
-fn check_effects(
-    alloc: Global,
-    rules: &Rules,
-    act: &Act,
-    trail: &mut Trail,
-) -> Result<Option<u32>, Memory>
-    requires rules { AreRules rules.now }
-    requires fits { ActionFits (2 * rules.now.known.now.facts) act.now }
-    requires assumed { IsAssumed rules.now act.now trail.old }
+fn check_effects(trial: &Trial, trail: &mut Trail) -> Result<Option<u32>, Memory>
+    requires { IsAssumed trial.now trail.old }
     ensures kept { OnOk result (trail.new ≡ trail.old) }
-    ensures told { IfOk result (λ o. MatchOption o (ArePassed rules.now act.now) (DoesNotPass rules.now act.now)) }
+    ensures told { IfOk result (TellsPassed trial.now.rules.now trial.now.act.now) }
 {
-    for effect in act.effects() {
-        let found = check_uses(alloc, rules, act, opposite(effect.lit()), trail)?;
+    for effect in trial.act.effects() {
+        let found = check_uses(trial, opposite(effect.lit()), trail)?;
         if found.is_some() {
             return Ok(found);
         }
@@ -150,51 +129,27 @@ fn check_effects(
     Ok(None)
 }
 
-/// The same, where the precondition is assumed first.
-fn check_assumed(
-    alloc: Global,
-    rules: &Rules,
-    act: &Act,
-    trail: &mut Trail,
-) -> Result<Option<u32>, Memory>
-    requires rules { AreRules rules.now }
-    requires fits { ActionFits (2 * rules.now.known.now.facts) act.now }
-    requires base { IsBase rules.now trail.old }
-    ensures facts { OnOk result (trail.new.facts ≡ trail.old.facts) }
-    ensures front { OnOk result (take (length trail.old.literals) trail.new.literals ≡ trail.old.literals) }
-    ensures told { IfOk result (λ o. MatchOption o (ArePassed rules.now act.now) (DoesNotPass rules.now act.now)) }
-{
-    if refutes(rules, act.pre(), trail)? {
-        return Ok(None);
-    }
-    let found = check_effects(alloc, rules, act, trail)?;
-    Ok(found)
-}
-
-/// The number of a clause at which an action does not pass. The trail is as it was.
-fn check_action(
-    alloc: Global,
-    rules: &Rules,
-    act: &Act,
-    trail: &mut Trail,
-) -> Result<Option<u32>, Memory>
-    requires rules { AreRules rules.now }
-    requires fits { ActionFits (2 * rules.now.known.now.facts) act.now }
-    requires base { IsBase rules.now trail.old }
+/// The same, where the precondition is assumed first. The trail is as it was.
+fn check_action(trial: &Trial, trail: &mut Trail) -> Result<Option<u32>, Memory>
+    requires { IsBegun trial.now trail.old }
     ensures kept { OnOk result (trail.new ≡ trail.old) }
-    ensures told { IfOk result (λ o. MatchOption o (ArePassed rules.now act.now) (DoesNotPass rules.now act.now)) }
+    ensures told { IfOk result (TellsPassed trial.now.rules.now trial.now.act.now) }
 {
     let from = trail.len();
-    let found = check_assumed(alloc, rules, act, trail)?;
+    if refutes(trial.rules, trial.act.pre(), trail)? {
+        trail.go_back(from);
+        return Ok(None);
+    }
+    let found = check_effects(trial, trail)?;
     trail.go_back(from);
     Ok(found)
 }
 
 /// A clause and an action that does not pass at it.
-fn check_actions(
+fn check_actions<'a>(
     alloc: Global,
-    rules: &Rules,
-    task: &Task,
+    rules: &'a Rules<'a>,
+    task: &'a Task,
     trail: &mut Trail,
 ) -> Result<Option<(u32, u32)>, Memory>
     requires rules { AreRules rules.now }
@@ -206,7 +161,8 @@ fn check_actions(
         (λ p. (p.1 < length task.now.actions) × DoesNotPass rules.now (action task.now p.1) p.0)) }
 {
     for number in 0..task.acts().len() as u32 {
-        match check_action(alloc, rules, task.act(number), trail)? {
+        let act = task.act(number);
+        match check_action(&Trial { alloc, rules, act }, trail)? {
             None => continue,
             Some(clause) => return Ok(Some((clause, number))),
         }
@@ -221,9 +177,7 @@ fn check_goal(rules: &Rules, task: &Task, trail: &mut Trail) -> Result<bool, Mem
     requires facts { rules.now.known.now.facts ≡ task.now.facts }
     requires base { IsBase rules.now trail.old }
     ensures kept { OnOk result (trail.new ≡ trail.old) }
-    ensures told { IfOk result (λ b. MatchBool b
-        (GoalPassesForward task.now rules.now.known.now.clauses rules.now.clauses.now)
-        (GoalPassesForward task.now rules.now.known.now.clauses rules.now.clauses.now → ⊥)) }
+    ensures told { IfOk result (Decides (GoalPassesForward task.now rules.now.known.now.clauses rules.now.clauses.now)) }
 {
     if task.hopeless() {
         return Ok(true);
@@ -235,35 +189,24 @@ fn check_goal(rules: &Rules, task: &Task, trail: &mut Trail) -> Result<bool, Mem
 }
 
 /// The check of clauses that are true in the initial state.
-fn check_kept(
-    alloc: Global,
-    task: &Task,
-    known: &Pairs,
-    clauses: &FlatLists<u32>,
-) -> Result<ForwardVerdict, Memory>
-    requires lawful { is_task task.now ≡ true }
-    requires facts { known.now.facts ≡ task.now.facts }
-    requires known { IsKnownClauses known.now }
-    requires few { length clauses.now ≤ 16777216 }
-    requires over { AllByRecursion (AreBelow (2 * task.now.facts)) clauses.now }
-    requires initial { AreTrue (initial_state task.now) clauses.now }
-    ensures { IfOk result (λ verdict. IsForwardVerdict task.now known.now.clauses clauses.now verdict) }
+fn check_kept(alloc: Global, given: &Given) -> Result<ForwardVerdict, Memory>
+    requires given { AreGiven given.now }
+    requires initial { AreTrue (initial_state given.now.task.now) given.now.clauses.now }
+    ensures { IfOk result (IsForwardVerdict given.now.task.now given.now.known.now.clauses given.now.clauses.now) }
 {
-    let facts = task.facts();
-    let uses = uses_of(alloc, facts, clauses)?;
+    let uses = uses_of(alloc, given.task.facts(), given.clauses)?;
     let rules = Rules {
-        known,
-        clauses,
+        known: given.known,
+        clauses: given.clauses,
         uses: &uses,
     };
-    let mut trail = Trail::new(alloc, facts)?;
-    if begin(&rules, &mut trail)? {
+    let Some(mut trail) = begun(alloc, &rules)? else {
         return Ok(ForwardVerdict::Accepted);
-    }
-    if !check_goal(&rules, task, &mut trail)? {
+    };
+    if !check_goal(&rules, given.task, &mut trail)? {
         return Ok(ForwardVerdict::Goal);
     }
-    match check_actions(alloc, &rules, task, &mut trail)? {
+    match check_actions(alloc, &rules, given.task, &mut trail)? {
         None => Ok(ForwardVerdict::Accepted),
         Some((clause, action)) => Ok(ForwardVerdict::Pair(clause, action)),
     }
@@ -279,15 +222,18 @@ pub fn check_forward(
     requires lawful { is_task task.now ≡ true }
     requires facts { known.now.facts ≡ task.now.facts }
     requires known { IsKnownClauses known.now }
-    requires few { length clauses.now ≤ 16777216 }
+    requires few { length clauses.now ≤ certificate_bytes }
     requires over { AllByRecursion (AreBelow (2 * task.now.facts)) clauses.now }
     ensures { IfOk result (λ verdict. IsForwardVerdict task.now known.now.clauses clauses.now verdict) }
 {
-    match first_false(task, clauses) {
-        Some(number) => Ok(ForwardVerdict::Initial(number as u32)),
-        None => {
-            let verdict = check_kept(alloc, task, known, clauses)?;
-            Ok(verdict)
-        }
+    if let Some(number) = first_false(task, clauses) {
+        return Ok(ForwardVerdict::Initial(number as u32));
     }
+    let given = Given {
+        task,
+        known,
+        clauses,
+    };
+    let verdict = check_kept(alloc, &given)?;
+    Ok(verdict)
 }

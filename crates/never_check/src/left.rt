@@ -2,10 +2,9 @@
 
 ghost use Rattle.std.specs.Prelude.{◌≡◌, ◌*◌};
 ghost use Rattle.std.specs.List.{AllByRecursion};
-ghost use Rattle.gt_core.specs.Literal.{is_in};
-ghost use Rattle.never_check.specs.Left.{TellsLeft, left_from};
-ghost use Rattle.never_check.specs.Follow.{AreBelow};
 ghost use Rattle.std.specs.Prelude.{None};
+ghost use Rattle.gt_core.specs.Literal.{is_in};
+ghost use Rattle.never_check.specs.{Left.TellsLeft, Left.left_from, Follow.AreBelow};
 
 use crate::trail::Trail;
 use gt_core::lits::opposite;

@@ -11,6 +11,7 @@ mod begin;
 mod cases;
 pub mod excluded;
 pub mod forward;
+mod given;
 mod left;
 mod propagate;
 mod refutes;

@@ -2,13 +2,10 @@
 
 ghost use Rattle.std.specs.Prelude.{◌≡◌, ℕ, ◌+◌, ◌*◌, ◌<◌, ◌≤◌, [], true, length, take, slice_index, slice_index_or, IfOk, OnOk, MatchBool};
 ghost use Rattle.std.specs.List.{AllByRecursion};
-ghost use Rattle.gt_core.specs.Literal.{opposite, is_in};
-ghost use Rattle.gt_core.specs.Clauses.{IsKnownClauses};
-ghost use Rattle.gt_core.specs.Interference.{has_clause};
+ghost use Rattle.gt_core.specs.{Literal.opposite, Literal.is_in, Clauses.IsKnownClauses, Interference.has_clause};
 ghost use Rattle.implied_literals.specs.Known.{IsFull};
 ghost use Rattle.never_defs.specs.Propagation.{IsLeft};
-ghost use Rattle.never_check.specs.Follow.{Obeys, AreBelow, IsGrown, IsContradiction};
-ghost use Rattle.never_check.specs.Rules.{AreRules, ObeysRules, AreFollowed};
+ghost use Rattle.never_check.specs.{Follow.Obeys, Follow.AreBelow, Follow.IsGrown, Follow.Adds, Rules.AreRules, Rules.ObeysRules, Rules.AreFollowed};
 
 use crate::left::{Left, left_of};
 use crate::rules::Rules;
@@ -40,10 +37,8 @@ pub fn look(trail: &mut Trail, clause: &[u32]) -> Result<bool, Memory>
     requires { AreBelow (2 * trail.old.facts) clause.now }
     ensures facts { trail.new.facts ≡ trail.old.facts }
     ensures front { OnOk result (take (length trail.old.literals) trail.new.literals ≡ trail.old.literals) }
-    ensures told { IfOk result (λ b. MatchBool b
-        (IsContradiction (λ set. Obeys set clause.now) trail.old.literals)
-        (IsGrown (λ set. Obeys set clause.now) trail.old.literals trail.new.literals
-        × ((l : ℕ) → IsLeft (is_in trail.old.literals) clause.now l → is_in trail.new.literals l ≡ true))) }
+    ensures told { IfOk result (Adds (λ set. Obeys set clause.now) trail.old.literals trail.new.literals
+        ((l : ℕ) → IsLeft (is_in trail.old.literals) clause.now l → is_in trail.new.literals l ≡ true)) }
 {
     match left_of(trail, clause) {
         Left::Nothing => Ok(true),
@@ -63,10 +58,8 @@ fn follow_known(known: &Pairs, trail: &mut Trail, lit: u32) -> Result<bool, Memo
     requires reached { is_in trail.old.literals lit ≡ true }
     ensures facts { trail.new.facts ≡ trail.old.facts }
     ensures front { OnOk result (take (length trail.old.literals) trail.new.literals ≡ trail.old.literals) }
-    ensures told { IfOk result (λ b. MatchBool b
-        (IsContradiction (IsFull (has_clause known.now.clauses) []) trail.old.literals)
-        (IsGrown (IsFull (has_clause known.now.clauses) []) trail.old.literals trail.new.literals
-        × ((y : ℕ) → has_clause known.now.clauses (opposite lit) y ≡ true → is_in trail.new.literals y ≡ true))) }
+    ensures told { IfOk result (Adds (IsFull (has_clause known.now.clauses) []) trail.old.literals trail.new.literals
+        ((y : ℕ) → has_clause known.now.clauses (opposite lit) y ≡ true → is_in trail.new.literals y ≡ true)) }
 {
     let top = 2 * known.facts();
     let row = known.row(opposite(lit));
@@ -90,11 +83,9 @@ fn follow_clauses(rules: &Rules, trail: &mut Trail, lit: u32) -> Result<bool, Me
     requires lit { lit < 2 * trail.old.facts }
     ensures facts { trail.new.facts ≡ trail.old.facts }
     ensures front { OnOk result (take (length trail.old.literals) trail.new.literals ≡ trail.old.literals) }
-    ensures told { IfOk result (λ b. MatchBool b
-        (IsContradiction (λ set. AllByRecursion (Obeys set) rules.now.clauses.now) trail.old.literals)
-        (IsGrown (λ set. AllByRecursion (Obeys set) rules.now.clauses.now) trail.old.literals trail.new.literals
-        × ((k : ℕ) → k < length rules.now.clauses.now → is_in (slice_index_or rules.now.clauses.now k []) (opposite lit) ≡ true
-        → (l : ℕ) → IsLeft (is_in trail.old.literals) (slice_index_or rules.now.clauses.now k []) l → is_in trail.new.literals l ≡ true))) }
+    ensures told { IfOk result (Adds (λ set. AllByRecursion (Obeys set) rules.now.clauses.now) trail.old.literals trail.new.literals
+        ((k : ℕ) → k < length rules.now.clauses.now → is_in (slice_index_or rules.now.clauses.now k []) (opposite lit) ≡ true
+        → (l : ℕ) → IsLeft (is_in trail.old.literals) (slice_index_or rules.now.clauses.now k []) l → is_in trail.new.literals l ≡ true)) }
 {
     let numbers = rules.uses[opposite(lit) as usize].as_slice();
     for number in numbers {
@@ -114,9 +105,8 @@ fn follow(rules: &Rules, trail: &mut Trail, place: usize) -> Result<bool, Memory
     requires followed { AreFollowed rules.now (take place trail.old.literals) trail.old.literals }
     ensures facts { trail.new.facts ≡ trail.old.facts }
     ensures front { OnOk result (take (length trail.old.literals) trail.new.literals ≡ trail.old.literals) }
-    ensures told { IfOk result (λ b. MatchBool b
-        (IsContradiction (ObeysRules rules.now) trail.old.literals)
-        (IsGrown (ObeysRules rules.now) trail.old.literals trail.new.literals × AreFollowed rules.now (take (place + 1) trail.new.literals) trail.new.literals)) }
+    ensures told { IfOk result (Adds (ObeysRules rules.now) trail.old.literals trail.new.literals
+        (AreFollowed rules.now (take (place + 1) trail.new.literals) trail.new.literals)) }
 {
     let lit = trail.at(place);
     if follow_known(rules.known, trail, lit)? {
@@ -134,9 +124,8 @@ pub fn propagate(rules: &Rules, trail: &mut Trail, from: usize) -> Result<bool, 
     requires followed { AreFollowed rules.now (take from trail.old.literals) trail.old.literals }
     ensures facts { trail.new.facts ≡ trail.old.facts }
     ensures front { OnOk result (take (length trail.old.literals) trail.new.literals ≡ trail.old.literals) }
-    ensures told { IfOk result (λ b. MatchBool b
-        (IsContradiction (ObeysRules rules.now) trail.old.literals)
-        (IsGrown (ObeysRules rules.now) trail.old.literals trail.new.literals × AreFollowed rules.now trail.new.literals trail.new.literals)) }
+    ensures told { IfOk result (Adds (ObeysRules rules.now) trail.old.literals trail.new.literals
+        (AreFollowed rules.now trail.new.literals trail.new.literals)) }
 {
     let mut place = from;
     'follow: while place < trail.len() {

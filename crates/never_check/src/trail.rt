@@ -51,8 +51,7 @@ fn stands(places: &[u32], literals: &[u32], lit: u32) -> bool
 
 impl Trail {
     ghost use Rattle.std.specs.Prelude.{◌≡◌, ◌<◌, ◌≤◌, ◌*◌, ◌++◌, ◌∷◌, [], take, false, length, slice_index, IfOk, OnOk, OnErr};
-    ghost use Rattle.gt_core.specs.Limits.{most_facts};
-    ghost use Rattle.gt_core.specs.Literal.{is_in};
+    ghost use Rattle.gt_core.specs.{Limits.most_facts, Literal.is_in};
     ghost use Rattle.never_check.specs.Trail.{Reached};
 
     /// No literals yet, of those of so many facts.

@@ -2,9 +2,9 @@
 
 ghost use Rattle.std.specs.Prelude.{◌≡◌, ℕ, ◌*◌, ◌<◌, ◌≤◌, ◌==◌, ◌||◌, ◌&&◌, [], length, slice_index_or, IfOk, OnOk};
 ghost use Rattle.std.specs.List.{AllByRecursion};
-ghost use Rattle.gt_core.specs.Literal.{is_in};
+ghost use Rattle.containers.specs.Limits.{certificate_bytes};
+ghost use Rattle.gt_core.specs.{Literal.is_in, Limits.most_facts};
 ghost use Rattle.never_check.specs.Follow.{AreBelow, AreUses};
-ghost use Rattle.gt_core.specs.Limits.{most_facts};
 
 use containers::equal::empty_lists;
 use containers::memory::Memory;
@@ -41,7 +41,7 @@ pub fn uses_of(
     clauses: &FlatLists<u32>,
 ) -> Result<Vec<ListOf<u32>>, Memory>
     requires facts { facts ≤ most_facts }
-    requires few { length clauses.now ≤ 16777216 }
+    requires few { length clauses.now ≤ certificate_bytes }
     requires over { AllByRecursion (AreBelow (2 * facts)) clauses.now }
     ensures { IfOk result (λ uses. AreUses (2 * facts) clauses.now uses.items) }
 {

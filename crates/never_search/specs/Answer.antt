@@ -1,6 +1,7 @@
 -- What a search answers.
 use Rattle.std.specs.Prelude.{◌≡◌, ℕ, ◌*◌, ◌<◌, ◌≤◌, List, length}
 use Rattle.std.specs.List.{AllByRecursion}
+use Rattle.containers.specs.Limits.{certificate_bytes}
 use Rattle.gt_core.specs.Task.{Task}
 use Rattle.gt_core.specs.Laws.{IsRunToGoal}
 use Rattle.never_defs.specs.Backward.{IsBackwardCertificate}
@@ -12,7 +13,7 @@ use Rattle.never_search.specs.declared.answer.Answer.{Answer}
 -- clauses over the facts of a task, not too many and each as it is read, that pass the check of a backward set
 pub record IsSet (task : Task) (known : List (ℕ × ℕ)) (clauses : List (List ℕ)) : Type 0 where
   pub passes : IsBackwardCertificate task known clauses
-  pub few : length clauses ≤ 16777216
+  pub few : length clauses ≤ certificate_bytes
   pub over : AllByRecursion (AllByRecursion (λ l. l < 2 * task.facts)) clauses
   pub as_read : AllByRecursion (IsAsRead task.facts) clauses
 

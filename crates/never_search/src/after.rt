@@ -40,7 +40,7 @@ pub fn has_all(row: &BitRow, lits: &[u32]) -> bool {
 }
 
 /// Whether the opposite of some literal of a list is in a row.
-fn has_opposite(row: &BitRow, lits: &[u32]) -> bool {
+pub fn has_opposite(row: &BitRow, lits: &[u32]) -> bool {
     for lit in lits {
         if row.contains(opposite(*lit)) {
             return true;

@@ -1,15 +1,14 @@
 //! A first cube that a state has, by which it is excluded from a layer: few literals that excuse each action.
 
-use crate::after::{after, has_all};
+use crate::after::{after, has_all, has_opposite};
 use crate::excluded::{Known, Spare};
 use crate::layers::Layer;
-use crate::shrink::score_of;
+use crate::shrink::{Made, score_of};
 use crate::tables::list_of;
 use bit_sets::row::BitRow;
 use containers::codes::opposite;
 use containers::memory::Memory;
 use gt_core::act::Act;
-use std::alloc::Global;
 
 /// Rows and lists in which a reason is made.
 #[derive(Drop)]
@@ -34,16 +33,6 @@ fn best_false(state: &BitRow, lits: &[u32], scores: &[u32]) -> Option<u32> {
         }
     }
     best
-}
-
-/// Whether the reason has the opposite of a literal of a list.
-fn is_met(reason: &BitRow, lits: &[u32]) -> bool {
-    for lit in lits {
-        if reason.contains(opposite(*lit)) {
-            return true;
-        }
-    }
-    false
 }
 
 /// Adds what a state has to have for a literal to hold after an action that runs in it, where it does so.
@@ -165,7 +154,7 @@ fn excuse(
     let Some(act) = known.task.acts().get(number as usize) else {
         return Ok(true);
     };
-    if is_met(&making.reason, act.pre()) {
+    if has_opposite(&making.reason, act.pre()) {
         return Ok(true);
     }
     match best_false(state, act.pre(), scores) {
@@ -179,30 +168,27 @@ fn excuse(
 
 /// Makes a list the literals of a cube that a state has, which are meant to excuse each action; false where that fails.
 pub fn find_reason(
-    alloc: Global,
-    known: &Known<'_>,
-    layers: &[Layer],
-    level: u32,
-    scores: &[u32],
+    made: &Made<'_, '_>,
     state: &BitRow,
     lits: &mut Vec<u32>,
     spare: &mut Spare,
 ) -> Result<bool, Memory> {
-    let Some(untrue) = best_false(state, known.task.goal(), scores) else {
+    let task = made.known.task;
+    let Some(untrue) = best_false(state, task.goal(), made.scores) else {
         return Ok(false);
     };
     let mut making = Making {
-        reason: BitRow::new(alloc),
-        need: Vec::new(alloc),
-        best: Vec::new(alloc),
+        reason: BitRow::new(made.alloc),
+        need: Vec::new(made.alloc),
+        best: Vec::new(made.alloc),
     };
     making.reason.insert(opposite(untrue))?;
-    for number in 0..known.task.acts().len() as u32 {
+    for number in 0..task.acts().len() as u32 {
         if !excuse(
-            known,
-            layers,
-            level,
-            scores,
+            made.known,
+            made.layers,
+            made.level,
+            made.scores,
             state,
             number,
             &mut making,
@@ -211,6 +197,6 @@ pub fn find_reason(
             return Ok(false);
         }
     }
-    list_of(&making.reason, known.tables.side, lits)?;
+    list_of(&making.reason, made.known.tables.side, lits)?;
     Ok(true)
 }

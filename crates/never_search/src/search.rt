@@ -11,15 +11,13 @@ use crate::set::clauses_of;
 use crate::steps::Search;
 use crate::tables::Tables;
 use bit_sets::row::BitRow;
+use containers::limits::CERTIFICATE_BYTES;
 use containers::memory::Memory;
 use gt_core::pairs::Pairs;
 use gt_core::task::Task;
 use never_check::backward::{BackwardVerdict, check_backward};
 use state_search::shorten::run_to_goal;
 use std::alloc::Global;
-
-/// How many clauses a set may have.
-const MOST_CLAUSES: usize = 16_777_216;
 
 /// The end that actions are, where they run to the goal.
 fn plan_of(alloc: Global, task: &Task, actions: Vec<u32>) -> Result<Option<End>, Memory>
@@ -45,7 +43,7 @@ fn set_of(
     requires known { IsKnownClauses known.now }
     ensures { IfOk result (λ o. IfSome o (IsFound task.now known.now.clauses)) }
 {
-    if layers.len() > MOST_CLAUSES {
+    if layers.len() > CERTIFICATE_BYTES as usize {
         return Ok(None);
     }
     let clauses = clauses_of(alloc, task.facts(), layers)?;

@@ -2,6 +2,7 @@
 
 ghost use Rattle.std.specs.Prelude.{◌*◌, ◌<◌, ◌≤◌, length, IfOk, OnOk};
 ghost use Rattle.std.specs.List.{AllByRecursion};
+ghost use Rattle.gt_core.specs.Limits.{most_facts};
 ghost use Rattle.never_text.specs.Laws.{IsAsRead};
 
 use crate::layers::Layer;
@@ -29,7 +30,7 @@ fn make_opposites(cube: &BitRow, facts: u32, lits: &mut Vec<u32>) -> Result<(), 
 
 /// The clauses of all cubes, over so many facts.
 pub fn clauses_of(alloc: Global, facts: u32, layers: &[Layer]) -> Result<FlatLists<u32>, Memory>
-    requires { facts ≤ 2048 }
+    requires { facts ≤ most_facts }
     ensures few { IfOk result (λ clauses. length clauses ≤ length layers.now) }
     ensures over { IfOk result (λ clauses. AllByRecursion (AllByRecursion (λ l. l < 2 * facts)) clauses) }
     ensures as_read { IfOk result (λ clauses. AllByRecursion (IsAsRead facts) clauses) }

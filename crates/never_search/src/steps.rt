@@ -5,7 +5,7 @@ use crate::excluded::{Known, Spare, is_excluded};
 use crate::layers::{Layer, excludes, learn};
 use crate::obligations::{Obligation, Obligations};
 use crate::reason::find_reason;
-use crate::shrink::shrink;
+use crate::shrink::{Made, shrink};
 use crate::tables::list_of;
 use bit_sets::row::BitRow;
 use containers::memory::Memory;
@@ -76,23 +76,20 @@ fn highest_level(
 
 /// Makes a list a small cube that a state has and a layer excludes; false where there is none.
 fn find_cube(
-    alloc: Global,
-    known: &Known<'_>,
-    layers: &[Layer],
-    level: u32,
-    scores: &[u32],
+    made: &Made<'_, '_>,
     state: &BitRow,
     lits: &mut Vec<u32>,
     spare: &mut Spare,
 ) -> Result<bool, Memory> {
-    let found = find_reason(alloc, known, layers, level, scores, state, lits, spare)?;
+    let (known, layers, level) = (made.known, made.layers, made.level);
+    let found = find_reason(made, state, lits, spare)?;
     if !found || !is_excluded(known, layers, level, lits, spare)? {
         list_of(state, known.tables.side, lits)?;
         if !is_excluded(known, layers, level, lits, spare)? {
             return Ok(false);
         }
     }
-    shrink(alloc, known, layers, level, scores, lits, spare)?;
+    shrink(made, lits, spare)?;
     Ok(true)
 }
 
@@ -135,16 +132,14 @@ impl Search {
         };
         let mut lits = Vec::new(self.alloc);
         let level = obligation.level;
-        if !find_cube(
-            self.alloc,
+        let made = Made {
+            alloc: self.alloc,
             known,
-            &self.layers,
+            layers: &self.layers,
             level,
-            &self.scores,
-            &obligation.state,
-            &mut lits,
-            &mut self.spare,
-        )? {
+            scores: &self.scores,
+        };
+        if !find_cube(&made, &obligation.state, &mut lits, &mut self.spare)? {
             return Ok(());
         }
         let highest = highest_level(known, &self.layers, level, self.top, &lits, &mut self.spare)?;

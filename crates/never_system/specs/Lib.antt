@@ -1,1 +1,2 @@
+pub mod Aiger
 pub mod Blif

@@ -11,7 +11,7 @@ use gt_core::task::Task;
 use std::alloc::Global;
 
 /// How many bits the number of an action takes.
-fn width_of(task: &Task) -> u32
+pub(crate) fn width_of(task: &Task) -> u32
     ensures is { result ≡ width_of task.now }
     ensures few { result ≤ 14 }
 {

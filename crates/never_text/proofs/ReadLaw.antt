@@ -1,5 +1,6 @@
 -- What a whole text is, by what its lines come to.
 use Rattle.std.proofs.Common.{arith, ◌≡◌, ◌∙◌, ◌+◌, ◌≤◌, ℕ, List, ◌∷◌, Ok, Err, Result, length, refl, ap, subst}
+use Rattle.containers.specs.Limits.{certificate_bytes}
 use Rattle.never_text.specs.declared.fault.Fault.{Fault}
 use Rattle.never_text.specs.declared.read.Reading.{Reading}
 use Rattle.never_text.specs.declared.read.Reading.TheVariants as reading
@@ -33,7 +34,7 @@ ended_ok facts text out e = by (with_lines facts Nothing 0 (lines_of text)) refl
     by (Ok (Weights weights)) er = rw er at e
 
 -- what is read is what the checks ask for
-module _ (facts : ℕ) (text : List ℕ) (small : length text ≤ 16777216) where
+module _ (facts : ℕ) (text : List ℕ) (small : length text ≤ certificate_bytes) where
   within : (out : Certificate) → certificate_of facts text ≡ Ok out → IsWithin facts (length (lines_of text)) out
   within out e = let z : 0 + length (lines_of text) ≡ length (lines_of text) = omega arith in subst (λ (n : ℕ). IsWithin facts n out) z (lines_within facts 0 Nothing out 0 (lines_of text) tt (ended_ok facts text out e))
 

@@ -1,6 +1,7 @@
 -- What a reading says of a text.
 use Rattle.std.specs.Prelude.{◌≡◌, ℕ, ◌*◌, ◌<◌, ◌≤◌, List, Result, Ok, Err, length}
 use Rattle.std.specs.List.{AllByRecursion}
+use Rattle.containers.specs.Limits.{certificate_bytes}
 use Rattle.never_text.specs.declared.fault.Fault.{Fault}
 use Rattle.never_text.specs.declared.read.Reading.{Reading}
 use Rattle.never_text.specs.declared.read.Reading.TheVariants as reading
@@ -15,7 +16,7 @@ IsReading (reading.Faulty at fault) told = told ≡ Err (at, fault)
 
 -- clauses over so many facts, which are not too many
 pub record AreClauses (facts : ℕ) (clauses : List (List ℕ)) : Type 0 where
-  pub few : length clauses ≤ 16777216
+  pub few : length clauses ≤ certificate_bytes
   pub over : AllByRecursion (AllByRecursion (λ l. l < 2 * facts)) clauses
 
 -- weights of literals of so many facts, whose sum is below 2 ^ 63

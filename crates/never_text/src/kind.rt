@@ -1,7 +1,6 @@
 //! What a certificate is, by the words of a line.
 
-ghost use Rattle.std.specs.Prelude.{◌≡◌};
-ghost use Rattle.std.specs.Str.{bytes_eq};
+ghost use Rattle.std.specs.{Prelude.◌≡◌, Str.bytes_eq};
 ghost use Rattle.never_text.specs.Certificate.{way_of, kind_of};
 
 use sat_text::words::Words;

@@ -2,7 +2,7 @@
 
 ghost use Rattle.std.specs.Prelude.{◌≡◌, ◌≤◌, ◌<◌, [], Ok, Err, None, IfOk, MatchOption};
 ghost use Rattle.never_text.specs.Certificate.{Nothing, begun, kind_of, literals_of, weight_of, sum_of, with_clause, with_weight, with_words, with_line};
-ghost use Rattle.never_text.specs.own.Reading.{IsReader, told_by};
+ghost use Rattle.never_text.specs.own.Reading.{IsReader, AnswersTo, told_by};
 
 use crate::fault::Fault;
 use crate::kind::{Kind, kind_of};
@@ -116,7 +116,7 @@ impl Reader {
         requires first { self.old.kind ≡ None }
         ensures reader { IsReader self.new }
         ensures facts { self.new.facts ≡ self.old.facts }
-        ensures told { MatchOption result (begun (kind_of words.old) ≡ Ok (told_by self.new)) (λ fault. begun (kind_of words.old) ≡ Err fault) }
+        ensures told { AnswersTo (begun (kind_of words.old)) (told_by self.new) result }
     {
         self.kind = kind_of(words);
         if self.kind.is_none() {
@@ -130,9 +130,7 @@ impl Reader {
         requires { IsReader self.old }
         ensures reader { IfOk result (λ _. IsReader self.new) }
         ensures facts { self.new.facts ≡ self.old.facts }
-        ensures told { IfOk result (λ o. MatchOption o
-            (with_words self.old.facts (told_by self.old) words.old ≡ Ok (told_by self.new))
-            (λ fault. with_words self.old.facts (told_by self.old) words.old ≡ Err fault)) }
+        ensures told { IfOk result (AnswersTo (with_words self.old.facts (told_by self.old) words.old) (told_by self.new)) }
     {
         match self.kind {
             None => Ok(self.take_kind(words)),
@@ -152,9 +150,7 @@ impl Reader {
         requires { IsReader self.old }
         ensures reader { IfOk result (λ _. IsReader self.new) }
         ensures facts { self.new.facts ≡ self.old.facts }
-        ensures told { IfOk result (λ o. MatchOption o
-            (with_line self.old.facts (told_by self.old) line.now ≡ Ok (told_by self.new))
-            (λ fault. with_line self.old.facts (told_by self.old) line.now ≡ Err fault)) }
+        ensures told { IfOk result (AnswersTo (with_line self.old.facts (told_by self.old) line.now) (told_by self.new)) }
     {
         if is_passed(line) {
             return Ok(None);

@@ -18,6 +18,7 @@
 
 mod ending;
 mod parts;
+mod program;
 mod run_end;
 mod status;
 pub mod stop;
@@ -26,6 +27,7 @@ mod written;
 
 pub use ending::{Due, Ending, File, Kind, Limit, Outcome, of_number, of_numbers};
 pub use parts::Growing;
+pub use program::{Program, start};
 pub use run_end::RunEnd;
 pub use status::Status;
 pub use words::{NO_WORDS, words_of};

@@ -22,8 +22,13 @@ fn push_action(p: &Pddl, g: &Grounded, a: u32, text: &mut Vec<u8>) -> Result<(),
     Ok(())
 }
 
-/// Appends the lines of the calls of actions.
-fn push_actions(p: &Pddl, g: &Grounded, actions: &[u32], text: &mut Vec<u8>) -> Result<(), Memory>
+/// Appends the lines of the calls of actions, in their order.
+pub fn push_actions(
+    p: &Pddl,
+    g: &Grounded,
+    actions: &[u32],
+    text: &mut Vec<u8>,
+) -> Result<(), Memory>
     requires { AllByRecursion (λ a. a < length g.now.calls) actions.now }
     ensures { OnOk result (text.new.items ≡ text.old.items ++ flat_map (λ a. joined (action_text p.now g.now a ∷ [])) actions.now) }
 {

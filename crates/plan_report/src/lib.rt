@@ -18,6 +18,7 @@ mod task_lines;
 mod task_names;
 mod text;
 
+pub use calls::push_actions;
 pub use listings::{push_ground, push_order};
 pub use report::{plan_text, report_text, summary_text};
 pub use step_plans::linear::linearise;

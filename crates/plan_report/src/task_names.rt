@@ -61,22 +61,14 @@ fn push_spelled(p: &Pddl, name: &[u8], objects: &[u32], text: &mut Vec<u8>) -> R
 pub fn push_atom(p: &Pddl, atom: &Atom, text: &mut Vec<u8>) -> Result<(), Memory>
     ensures { OnOk result (text.new.items ≡ text.old.items ++ atom_text p.now atom.now) }
 {
-    push_spelled(
-        p,
-        predicate_name(p, atom.predicate),
-        atom.objects.as_slice(),
-        text,
-    )
+    let name = predicate_name(p, atom.predicate);
+    push_spelled(p, name, atom.objects.as_slice(), text)
 }
 
 /// Appends a call.
 pub fn push_call(p: &Pddl, call: &Call, text: &mut Vec<u8>) -> Result<(), Memory>
     ensures { OnOk result (text.new.items ≡ text.old.items ++ call_text p.now call.now) }
 {
-    push_spelled(
-        p,
-        schema_name(p, call.schema),
-        call.objects.as_slice(),
-        text,
-    )
+    let name = schema_name(p, call.schema);
+    push_spelled(p, name, call.objects.as_slice(), text)
 }

@@ -25,12 +25,7 @@ pub trait Kept: Sized + Drop {
     ghost ends_run: { List (List ℕ) → List (List ℕ) → FileValue → List ℕ → List Heard → EndingValue → Type 0 };
 
     /// Takes the file of a name.
-    fn take_one<S: Shelf>(
-        alloc: Global,
-        file: File,
-        name: &str,
-        shelf: &mut S,
-    ) -> Result<Self, Stop>
+    fn read<S: Shelf>(alloc: Global, file: File, name: &str, shelf: &mut S) -> Result<Self, Stop>
         ensures told { S.told shelf.new ≡ S.told shelf.old }
         ensures lacks { S.lacks shelf.new ≡ S.lacks shelf.old }
         ensures notes { Notes (S.failed shelf.old) (S.failed shelf.new) name.now }
@@ -44,12 +39,7 @@ impl Kept for Bytes {
 
     ghost ends_run = { Stops };
 
-    fn take_one<S: Shelf>(
-        alloc: Global,
-        file: File,
-        name: &str,
-        shelf: &mut S,
-    ) -> Result<Self, Stop> {
+    fn read<S: Shelf>(alloc: Global, file: File, name: &str, shelf: &mut S) -> Result<Self, Stop> {
         let mut bytes = Vec::new(alloc);
         match shelf.take(name, most_of(file), &mut bytes) {
             Ok(Taken::Whole) => Ok(Bytes::of(bytes)),
@@ -65,13 +55,8 @@ impl Kept for Option<Bytes> {
 
     ghost ends_run = { IsFault };
 
-    fn take_one<S: Shelf>(
-        alloc: Global,
-        file: File,
-        name: &str,
-        shelf: &mut S,
-    ) -> Result<Self, Stop> {
-        match Bytes::take_one(alloc, file, name, shelf) {
+    fn read<S: Shelf>(alloc: Global, file: File, name: &str, shelf: &mut S) -> Result<Self, Stop> {
+        match Bytes::read(alloc, file, name, shelf) {
             Ok(bytes) => Ok(Some(bytes)),
             Err(Stop::Ends(Ending::TooLong(_))) => Ok(None),
             Err(stop) => Err(stop),
@@ -116,8 +101,8 @@ pub fn take_all<S: Shelf>(
     ensures taken { IfOk result (λ files. (took : List Heard) × (S.heard shelf.new ≡ S.heard shelf.old ++ took) × AreTaken (file_in third) 0 (names_of names.entry) took (bytes_of files)) }
     ensures stops { StopsBy (λ end. (took : List Heard) × (S.heard shelf.new ≡ S.heard shelf.old ++ took) × StopsFrom (S.failed shelf.old) (S.failed shelf.new) (file_in third) 0 (names_of names.entry) took end) result }
 {
-    let domain = Bytes::take_one(alloc, File::Domain, names.domain, shelf)?;
-    let problem = Bytes::take_one(alloc, File::Problem, names.problem, shelf)?;
+    let domain = Bytes::read(alloc, File::Domain, names.domain, shelf)?;
+    let problem = Bytes::read(alloc, File::Problem, names.problem, shelf)?;
     let third = take_third(alloc, names.third, third, shelf)?;
     Ok(Files {
         domain,
@@ -141,7 +126,7 @@ fn take_third<S: Shelf>(
     ensures ends { (before : List (List ℕ)) → Rises before (S.failed shelf.old) → StopsBy (λ end. (took : List Heard) × (S.heard shelf.new ≡ S.heard shelf.old ++ took) × StopsFrom before (S.failed shelf.new) (file_in file) 2 (third_name name.entry) took end) result }
 {
     match name {
-        Some(name) => Ok(Some(Bytes::take_one(alloc, file, name, shelf)?)),
+        Some(name) => Ok(Some(Bytes::read(alloc, file, name, shelf)?)),
         None => Ok(None),
     }
 }
@@ -178,13 +163,13 @@ pub fn take_batch<S: Shelf>(
     ensures taken { IfOk result (λ files. (took : List Heard) × (S.heard shelf.new ≡ S.heard shelf.old ++ took) × AreTakenOrLong (file_in File.Problem) 0 (domain.now ∷ texts problems.now) took (files.domain ∷ files.problems.items)) }
     ensures stops { StopsBy (λ end. (took : List Heard) × (S.heard shelf.new ≡ S.heard shelf.old ++ took) × FaultsFrom (S.failed shelf.old) (S.failed shelf.new) (file_in File.Problem) 0 (domain.now ∷ texts problems.now) took end) result }
 {
-    let domain = Option::<Bytes>::take_one(alloc, File::Domain, domain, shelf)?;
+    let domain = Option::<Bytes>::read(alloc, File::Domain, domain, shelf)?;
     let mut files = BatchFiles {
         domain,
         problems: Vec::new(alloc),
     };
     'taking: while let Some(name) = problems.get(files.problems.len()) {
-        let file = Option::<Bytes>::take_one(alloc, File::Problem, name, shelf)?;
+        let file = Option::<Bytes>::read(alloc, File::Problem, name, shelf)?;
         files.problems.push(file)?;
     }
     Ok(files)

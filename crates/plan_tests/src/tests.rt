@@ -6,5 +6,6 @@ mod proofs;
 mod read_tasks;
 mod runs;
 mod tasks;
+mod walks;
 mod words;
 mod workers;

@@ -54,7 +54,7 @@ use Rattle.plan_endings.specs.Ending.{status_of, status_of_race, text_of, greate
 use Rattle.plan_top.specs.Headline.{Printed, OfFiles, OfThreeFiles, OfPlans, PlanRuns, EveryOrderRuns, HasAtLeast, HasPlanOf, TellsExhausted, NoStepPlan, NoPlan, LineIsSo, SpendsAll, PartIsSo, Certifies, CertifiesNothing, ProvesNone, TellsGround, TellsOrder, AreCallsOfPlan, AreCallsOfNoPlan}
 use Rattle.plan_top.specs.Laws.{Laws}
 use Rattle.plan_top.proofs.published.Claims as claims
-use Rattle.plan_endings.proofs.published.Statuses.{six_seven, six_seven_eight}
+use Rattle.plan_endings.proofs.published.Words as by_words
 use Rattle.plan_top.proofs.Told.{asked_comes, asked_parts, not_asked_comes}
 use Rattle.plan_top.proofs.Reports.{is_stop, stop_says_nothing, printed_is, printed_front, nothing_said}
 use Rattle.plan_top.proofs.published.Verdicts.{reaches_is_plan, plan_reaches}
@@ -263,11 +263,7 @@ module _ (old new : List (List ℕ)) where
 
   -- no ending that comes has a status of its own for a write fault or for want of memory
   pub status_apart : (took : List Heard) (words : List (List ℕ)) (end : Ending) → Comes took old new words end → (status_of end ≡ 6 → ⊥) × (status_of end ≡ 8 → ⊥)
-  status_apart took words end h = elim (words_low took words end h) [
-    | inl k ↦ (let seven = k.0 in (λ six. omega (arith, seven, six), λ eight. omega (arith, seven, eight)))
-    | inr (inl k) ↦ (let five = k.0 in (λ six. omega (arith, five, six), λ eight. omega (arith, five, eight)))
-    | inr (inr low) ↦ (λ six. omega (arith, low, six), λ eight. omega (arith, low, eight))
-  ]
+  status_apart took words = by_words.status_apart status_of _ _ _ (words_low took words)
 
 -- ---- certificates
 
@@ -369,9 +365,7 @@ module _ (was now took : List Heard) (handed : now ≡ was ++ took) (old new : L
   IsFront = (status ≡ 8 → ⊥) → (end : Ending) × Comes took old new words end × IsSmall end × TakesFront before after (text_of end)
 
   due_at : (k : ℕ) → IsDue → status ≡ k → k ≤ 5 → (end : Ending) × (status_of end ≡ k) × Comes took old new words end × (after ≡ appended before (text_of end))
-  due_at k due is low =
-      let d = due (λ six. absurd (omega arith)) (λ eight. absurd (omega arith)) in
-      (d.0, sym d.1 ∙ is, d.2, d.3)
+  due_at k due = by_words.due_at status_of _ _ _ (words_low old new took words) status _ due k
 
   -- what was decided for a request of one task by an ending that does not stop
   decided_for : (end : Ending) → Comes took old new words end → (request : Seen) → IsOfOne request → requested words ≡ Some request → (is_stop end ≡ true → ⊥)
@@ -551,34 +545,17 @@ module _ (was now took : List Heard) (handed : now ≡ was ++ took) (old new : L
 
   -- ---- words and faults
 
-  usage_only : (end : Ending) → status_of end ≡ 7 → Comes took old new words end → requested words ≡ None
-  usage_only end seven h = elim (words_low old new took words end h) [
-    | inl k ↦ k.1
-    | inr (inl k) ↦ absurd (let five = k.0 in omega (arith, five, seven))
-    | inr (inr low) ↦ absurd (omega (arith, low, seven))
-  ]
-
   pub usage : IsDue → status ≡ 7 → requested words ≡ None
-  usage due seven = let d = due (λ six. absurd (omega arith)) (λ eight. absurd (omega arith)) in usage_only d.0 (sym d.1 ∙ seven) d.2
-
-  fault_of : (end : Ending) → status_of end ≡ 5 → Comes took old new words end → FaultOf old new words
-  fault_of end five h = elim (words_low old new took words end h) [
-    | inl k ↦ absurd (let seven = k.0 in omega (arith, five, seven))
-    | inr (inl k) ↦ k.1
-    | inr (inr low) ↦ absurd (omega (arith, low, five))
-  ]
+  usage due = by_words.usage status_of _ _ _ (words_low old new took words) status _ due
 
   pub read_fault : IsDue → status ≡ 5 → FaultOf old new words
-  read_fault due five = let d = due_at 5 due five (omega arith) in fault_of d.0 d.1 d.2
-
-  seven : IsDue → requested words ≡ None → (status ≡ 6 → ⊥) → (status ≡ 8 → ⊥) → status ≡ 7
-  seven due none not_six not_eight = let d = due not_six not_eight in d.1 ∙ ap status_of (not_asked_comes took old new words none d.0 d.2)
+  read_fault due = by_words.read_fault status_of _ _ _ (words_low old new took words) status _ due
 
   pub not_taken : IsDue → requested words ≡ None → Contains (6 ∷ 7 ∷ 8 ∷ []) status
-  not_taken due none = six_seven_eight status (seven due none)
+  not_taken due none = by_words.not_taken status_of _ _ _ (words_low old new took words) status _ due Usage refl (not_asked_comes took old new words none)
 
   pub no_command : IsDue → requested words ≡ None → (status ≡ 8 → ⊥) → Contains (6 ∷ 7 ∷ []) status
-  no_command due none not_eight = six_seven status (λ not_six. seven due none not_six not_eight)
+  no_command due none = by_words.no_command status_of _ _ _ (words_low old new took words) status _ due Usage refl (not_asked_comes took old new words none)
 
   pub same_report : Laws → IsDue → (elsewhere : List Heard) (others was is : List (List ℕ)) (end : Ending) → AskForOne took elsewhere words others → Comes elsewhere was is others end
       → HasRead end → (status ≡ 5 → ⊥) → (status ≡ 6 → ⊥) → (status ≡ 8 → ⊥) → (status ≡ status_of end) × (after ≡ appended before (text_of end))

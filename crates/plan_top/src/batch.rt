@@ -33,8 +33,7 @@ pub fn answer_batch<H: Threads + Wait + Sync, D: Driver>(
     turns: Turns,
 ) -> Result<Ending, Stop>
     requires domain { IsShort domain.now }
-    requires problems { AllByRecursion IsShort problems.now }
-    requires few { length problems.now ≤ 16 }
+    requires problems { AllByRecursion IsShort problems.now × (length problems.now ≤ 16) }
     ensures batch { EndsAs (AnswersBatch settings.now domain.now problems.now) result }
     ensures drives { D.faults driver.old ≤ D.faults driver.new }
 {

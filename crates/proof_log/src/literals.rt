@@ -1,7 +1,9 @@
 //! The literals of a learned clause in memory that others may share: each by its code, or as bytes, which take about a fifth of the room.
 ghost use Rattle.std.specs.Prelude.{◌≡◌, length, IfOk, OnOk};
 ghost use Rattle.proof_log.specs.own.Numbers.{numbers_of};
+ghost use Rattle.proof_log.specs.own.Placed.{counted_numbers};
 
+use crate::number::{put_number, take_number};
 use crate::numbers::{Numbers, put_numbers, take_step};
 use clause_base::literal::Lit;
 use containers::SharedListOf;
@@ -14,11 +16,8 @@ use std::marker::Model;
 enum Form {
     /// Each by its code.
     Shared(SharedListOf<Lit>),
-    /// So many as bytes: how far each code is from the one before it.
-    Bytes {
-        count: usize,
-        bytes: SharedListOf<u8>,
-    },
+    /// As bytes: how many there are, and how far each code is from the one before it.
+    Bytes(SharedListOf<u8>),
 }
 
 /// The literals of a clause. Contracts see the list of them, wherever they stand.
@@ -48,11 +47,12 @@ fn codes_of(alloc: Global, numbers: &Numbers<'_>) -> Result<Vec<u32>, Memory>
     Ok(codes)
 }
 
-/// So many numbers as bytes, in no more room than these take.
+/// Numbers as bytes that begin with how many there are, in no more room than these take.
 fn bytes_of(alloc: Global, codes: &[u32]) -> Result<SharedListOf<u8>, Memory>
-    ensures { IfOk result (λ bytes. numbers_of (length codes.now) 0 bytes ≡ codes.now) }
+    ensures { IfOk result (λ bytes. counted_numbers bytes ≡ codes.now) }
 {
     let mut bytes = Vec::new(alloc);
+    put_number(&mut bytes, codes.len() as u64)?;
     put_numbers(&mut bytes, codes)?;
     let exact = SharedListOf::copied_from(alloc, &bytes)?;
     Ok(exact)
@@ -101,10 +101,7 @@ impl Literals {
         let codes = codes_of(alloc, &self.numbers())?;
         let bytes = bytes_of(alloc, &codes)?;
         Ok(Literals {
-            form: Form::Bytes {
-                count: codes.len(),
-                bytes,
-            },
+            form: Form::Bytes(bytes),
         })
     }
 
@@ -114,10 +111,7 @@ impl Literals {
     {
         let form = match &self.form {
             Form::Shared(list) => Form::Shared(list.copy()?),
-            Form::Bytes { count, bytes } => Form::Bytes {
-                count: *count,
-                bytes: bytes.copy()?,
-            },
+            Form::Bytes(bytes) => Form::Bytes(bytes.copy()?),
         };
         Ok(Literals { form })
     }
@@ -128,7 +122,10 @@ impl Literals {
     {
         match &self.form {
             Form::Shared(list) => Numbers::codes(list.as_slice()),
-            Form::Bytes { count, bytes } => Numbers::of(bytes.as_slice(), *count),
+            Form::Bytes(bytes) => {
+                let count = take_number(bytes.as_slice());
+                Numbers::of(count.rest, count.number as usize)
+            }
         }
     }
 
@@ -138,7 +135,10 @@ impl Literals {
     {
         match &self.form {
             Form::Shared(list) => put_lits(list.as_slice(), lits),
-            Form::Bytes { count, bytes } => decode(bytes.as_slice(), *count, lits),
+            Form::Bytes(bytes) => {
+                let count = take_number(bytes.as_slice());
+                decode(count.rest, count.number as usize, lits)
+            }
         }
     }
 }

@@ -1,2 +1,3 @@
 pub mod ListReaders
 pub mod Ranges
+pub mod Made

@@ -3,4 +3,5 @@ mod Runs
 mod Knowing
 mod Promises
 mod Deciding
+mod Refuting
 mod Fit

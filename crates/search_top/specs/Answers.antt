@@ -10,14 +10,16 @@ use Rattle.plan_endings.specs.declared.ending.Ending.{Ending}
 use Rattle.plan_endings.specs.Ends as ends
 use Rattle.plan_endings.specs.declared.stop.Stop.{Stop}
 use Rattle.plan_tasks.specs.Tasks.{AreTask, IsReady, StopsTask}
+use Rattle.proof_verdict.specs.Verdict.{TapeRun}
 use Rattle.search_top.specs.declared.ended.Ended.{Ended}
 use Rattle.search_top.specs.declared.ended.Ended.TheVariants.{Plain, Walked}
 use Rattle.search_top.specs.declared.request.How.{How}
 use Rattle.search_top.specs.declared.request.How.TheVariants.{Greedy, Least}
-use Rattle.search_top.specs.Seen.{Seen, searches, nevers, certifies, explores, systems}
+use Rattle.search_top.specs.Seen.{Seen, searches, nevers, certifies, explores, systems, formulates, refutes}
 use Rattle.search_top.specs.Budget.{budget_of}
 use Rattle.search_top.specs.Explored.{AnswersExplore, AnswersSystem}
 use Rattle.search_top.specs.Never.{AnswersNever, AnswersCertificate}
+use Rattle.search_top.specs.Refuted.{AnswersNeverFormula, AnswersNeverJudge}
 use Rattle.search_top.specs.Report.{outcome_of, report_of, IsSmallAnswer}
 
 -- the ending, answered or handed on as one that all programs have, is of this kind; of want of memory nothing is said
@@ -43,11 +45,13 @@ pub record AnswersSearch (how : How) (states memory : ℕ) (task : Parts) (g : G
   pub small : IsSmallAnswer (budget_of how states memory g.task) answer
   pub told : end ≡ Walked (outcome_of answer.end) (report_of task g how (budget_of how states memory g.task) answer)
 
--- what the bytes of its files come to for a request
-abbrev pub Answers : Seen → List (List ℕ) → Ended → Type 0
-Answers (searches d p how states memory) (first ∷ second ∷ []) end = OnceReady first second (AnswersSearch how states memory) end
-Answers (nevers d p) (first ∷ second ∷ []) end = OnceReady first second AnswersNever end
-Answers (explores d p budget) (first ∷ second ∷ []) end = OnceReady first second (AnswersExplore budget) end
-Answers (systems d p) (first ∷ second ∷ []) end = OnceReady first second AnswersSystem end
-Answers (certifies d p c) (first ∷ second ∷ third ∷ []) end = OnceReady first second (AnswersCertificate third) end
-Answers _ _ end = ⊥
+-- what the bytes of its files, and what a tape gave, come to for a request
+abbrev pub Answers : TapeRun → Seen → List (List ℕ) → Ended → Type 0
+Answers tape (searches d p how states memory) (first ∷ second ∷ []) end = OnceReady first second (AnswersSearch how states memory) end
+Answers tape (nevers d p) (first ∷ second ∷ []) end = OnceReady first second AnswersNever end
+Answers tape (explores d p budget) (first ∷ second ∷ []) end = OnceReady first second (AnswersExplore budget) end
+Answers tape (systems d p format) (first ∷ second ∷ []) end = OnceReady first second (AnswersSystem format) end
+Answers tape (certifies d p c) (first ∷ second ∷ third ∷ []) end = OnceReady first second (AnswersCertificate third) end
+Answers tape (formulates d p c) (first ∷ second ∷ third ∷ []) end = OnceReady first second (AnswersNeverFormula third) end
+Answers tape (refutes d p c l) (first ∷ second ∷ third ∷ []) end = OnceReady first second (AnswersNeverJudge tape l third) end
+Answers _ _ _ end = ⊥

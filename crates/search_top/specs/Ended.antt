@@ -22,6 +22,7 @@ status_of_finding findings.Rejected = 1
 status_of_finding findings.Planned = 1
 status_of_finding findings.Open = 2
 status_of_finding findings.Refused = 3
+status_of_finding findings.Past = 4
 
 -- the exit status
 abbrev pub status_of : Ended → ℕ
@@ -35,7 +36,7 @@ abbrev pub text_of : Ended → List ℕ
 text_of (Plain end) = plain.text_of end
 text_of (Walked outcome text) = text
 text_of (Shown finding text) = text
-text_of Usage = joined (codes "; usage: search, never, never-search or system" ∷ [])
+text_of Usage = joined (codes "; usage: search, never, never-search, never-formula, never-judge or system" ∷ [])
 
 -- the text due is there: it was made, or is always the same
 abbrev pub is_there : Ended → Bool

@@ -9,11 +9,14 @@ use Rattle.never_search.specs.Answer.{IsAnswer}
 use Rattle.never_search.specs.declared.answer.Answer.{Answer}
 use Rattle.never_search.specs.declared.answer.End.{End}
 use Rattle.never_search.specs.declared.answer.End.TheVariants as found
+use Rattle.never_system.specs.Aiger.{aiger}
 use Rattle.never_system.specs.Blif.{blif}
 use Rattle.never_text.specs.Certificate.{clauses_text}
 use Rattle.state_search.specs.declared.answer.End.TheVariants as walks
 use Rattle.plan_endings.specs.declared.ending.Ending.TheVariants.{Listing}
 use Rattle.search_top.specs.Report.{end_lines, IsSmallEnd}
+use Rattle.search_top.specs.declared.request.Format.{Format}
+use Rattle.search_top.specs.declared.request.Format.TheVariants.{Blif, Aiger}
 use Rattle.search_top.specs.declared.request.How.TheVariants.{Greedy}
 use Rattle.search_top.specs.declared.ended.Finding.TheVariants.{NoPlan, Planned, Open}
 use Rattle.search_top.specs.declared.ended.Ended.{Ended}
@@ -41,6 +44,11 @@ pub record AnswersExplore (budget : ℕ) (task : Parts) (g : Grounded) (end : En
   pub small : IsSmallFound answer.end
   pub told : end ≡ ended_explored task g answer.end
 
+-- the text of a task as a transition system, in a format
+abbrev pub system_text : Format → Task → List ℕ
+system_text Blif task = blif task
+system_text Aiger task = aiger task
+
 -- what it comes to as a transition system
-abbrev pub AnswersSystem : Parts → Grounded → Ended → Type 0
-AnswersSystem task g end = end ≡ Plain (Listing (blif g.task))
+abbrev pub AnswersSystem : Format → Parts → Grounded → Ended → Type 0
+AnswersSystem format task g end = end ≡ Plain (Listing (system_text format g.task))

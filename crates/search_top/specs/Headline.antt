@@ -1,16 +1,26 @@
 -- What is promised of the files.
-use Rattle.std.specs.Prelude.{◌≡◌, ◌≤◌, ℕ, List, [], ◌∷◌, ◌++◌, length, false, Ok, codes}
+use Rattle.std.specs.Prelude.{◌≡◌, ◌≤◌, ◌⊎◌, ℕ, List, [], ◌∷◌, ◌++◌, length, false, Ok, codes}
 use Rattle.pl_io.specs.Outside.{Heard, whole}
 use Rattle.two_invariants.specs.Closed.{AreInvariants}
 use Rattle.never_defs.specs.Forward.{GoalPassesForward}
 use Rattle.never_defs.specs.Backward.{IsBackwardCertificate}
 use Rattle.never_check.specs.Exclusions.{IsExclusion}
 use Rattle.never_check.specs.declared.excluded.Exclusion.{Exclusion}
-use Rattle.never_text.specs.Certificate.{Backward, certificate_of, clauses_text}
+use Rattle.never_text.specs.Certificate.{Forward, Backward, certificate_of, clauses_text}
 use Rattle.never_search.specs.declared.answer.Answer.{Answer}
 use Rattle.never_search.specs.declared.answer.End.TheVariants.{Open}
-use Rattle.search_top.specs.Explored.{IsExplored}
-use Rattle.never_system.specs.Blif.{blif}
+use Rattle.search_top.specs.Explored.{IsExplored, system_text}
+use Rattle.clause_base.specs.Formula.{Cnf}
+use Rattle.pl_io.specs.Tape.{Given, IsReadOnce, IsFileOf}
+use Rattle.lrat_judge.specs.Verdicts.{verdict_of}
+use Rattle.lrat_judge.specs.declared.verdict.Verdict.{Verdict}
+use Rattle.lrat_judge.specs.declared.verdict.Verdict.TheVariants.{Refuted}
+use Rattle.gt_core.specs.Task.{Task, initial_state}
+use Rattle.never_defs.specs.Sets.{AreTrue}
+use Rattle.never_form.specs.Formed.{IsNeverFormula}
+use Rattle.search_top.specs.Ended.{status_of, text_of}
+use Rattle.search_top.specs.Refuted.{never_text, ended_verdict, ended_initial, IsFalseAtFirst}
+use Rattle.search_top.specs.declared.request.Format.{Format}
 use Rattle.plan_tasks.specs.Tasks.{AreTask}
 use Rattle.search_top.specs.declared.ended.Finding.{Finding}
 use Rattle.search_top.specs.declared.judged.Judgement.{Judgement}
@@ -85,6 +95,43 @@ TellsSet text task =
 abbrev pub IsSearched : ℕ → Parts → Type 0
 IsSearched budget task = OfGround task (λ g. (answer : Answer) × IsExplored g.task budget answer × (answer.end ≡ Open) × (answer.obligations ≡ budget))
 
--- the text is the task as a transition system
-abbrev pub TellsSystem : List ℕ → Parts → Type 0
-TellsSystem text task = OfGround task (λ g. text ≡ blif g.task)
+-- the text is the task as a transition system, in a format
+abbrev pub TellsSystem : Format → List ℕ → Parts → Type 0
+TellsSystem format text task = OfGround task (λ g. text ≡ system_text format g.task)
+
+-- ---- certificates by their formula
+
+-- the text of a certificate is clauses that are read forward, of which there is a formula, and the claim holds of these
+abbrev pub OfFormula : List ℕ → Parts → (Task → List (List ℕ) → Cnf → Type 0) → Type 0
+OfFormula certificate task claim =
+    OfGround task (λ g. (clauses : List (List ℕ)) × (f : Cnf) × (certificate_of g.task.facts certificate ≡ Ok (Forward clauses)) × IsNeverFormula g.task clauses f × claim g.task clauses f)
+
+-- the text is that of its formula
+abbrev pub TellsFormula : List ℕ → List ℕ → Parts → Type 0
+TellsFormula text certificate task = OfFormula certificate task (λ ground clauses f. text ≡ never_text f)
+
+-- What a tape had given before a run and after it, and the name of a proof.
+module _ (old new : Given) (proof : List ℕ) where
+  -- a file of that name was opened, once and no other, and each call that read it gave what came next; the clauses are all true in the initial
+  -- state; and the claim holds of the verdict on the bytes of the whole file, of which some were handed over
+  abbrev pub OfVerdict : (ℕ → Verdict → Type 0) → List ℕ → Parts → Type 0
+  OfVerdict claim certificate task =
+      OfFormula certificate task (λ ground clauses f. IsReadOnce old new proof × AreTrue (initial_state ground) clauses
+      × ((file : List ℕ) → IsFileOf new file → claim (length clauses) (verdict_of f file)))
+
+  -- the verdict is that the lines derive the empty clause from the formula, or that the formula has it, and the text tells that
+  abbrev pub IsRefuted : List ℕ → List ℕ → Parts → Type 0
+  IsRefuted text = OfVerdict (λ count verdict. ((entries : ℕ) × (verdict ≡ Refuted entries)) × (text ≡ text_of (ended_verdict count verdict)))
+
+  -- it is one of status 1, which the text tells: a line does not follow, or each follows and none adds the empty clause
+  abbrev pub IsNotRefuted : List ℕ → List ℕ → Parts → Type 0
+  IsNotRefuted text = OfVerdict (λ count verdict. (status_of (ended_verdict count verdict) ≡ 1) × (text ≡ text_of (ended_verdict count verdict)))
+
+-- the certificate is clauses that are read forward, one of which is false in the initial state, and the text tells which
+abbrev pub TellsFalseAtFirst : List ℕ → List ℕ → Parts → Type 0
+TellsFalseAtFirst text certificate task =
+    OfGround task (λ g. (clauses : List (List ℕ)) × (k : ℕ) × (certificate_of g.task.facts certificate ≡ Ok (Forward clauses)) × IsFalseAtFirst g.task clauses k × (text ≡ text_of (ended_initial k)))
+
+-- that, or the proof does not refute the formula
+abbrev pub IsUnproved : Given → Given → List ℕ → List ℕ → List ℕ → Parts → Type 0
+IsUnproved old new proof text certificate task = TellsFalseAtFirst text certificate task ⊎ IsNotRefuted old new proof text certificate task

@@ -10,6 +10,7 @@ pub mod Laws
 pub mod Limits
 pub mod Literals
 pub mod Never
+pub mod Refuted
 pub mod Report
 pub mod Requested
 pub mod Seen

@@ -94,9 +94,13 @@ abbrev pub numbered : List ℕ → Option ℕ → List ℕ
 numbered front None = front
 numbered front (Some k) = front ++ (codes " " ++ decimal (k + 1))
 
+-- the line that tells where the line at fault of a certificate begins
+abbrev pub faulty_line : ℕ → List ℕ
+faulty_line at = codes "; refused syntax certificate " ++ decimal at
+
 -- the line that tells it
 abbrev pub judgement_line : Parts → Grounded → Judgement → List ℕ
-judgement_line p g (says.Faulty at) = codes "; refused syntax proof " ++ decimal at
+judgement_line p g (says.Faulty at) = faulty_line at
 judgement_line p g (says.Clauses count) = codes "; no plan of any length, clauses " ++ decimal count
 judgement_line p g says.Weights = codes "; no plan of any length, weights"
 judgement_line p g (says.Initial clause) = numbered (codes "; rejected initial") clause

@@ -3,7 +3,7 @@ use Rattle.std.specs.Prelude.{Option, List}
 use Rattle.clap.specs.Walk.{Text}
 use Rattle.requests.specs.Asked as asked
 use Rattle.search_top.specs.declared.command.Name.{Name}
-use Rattle.search_top.specs.Command.{command_of, how_list, named}
+use Rattle.search_top.specs.Command.{simple_command, named}
 use Rattle.search_top.specs.Seen.{Seen, seen_in}
 
 -- The command that the first word names, where there is one.
@@ -12,4 +12,4 @@ command_named words = asked.command_named named words
 
 -- What the words ask for: the first names the command, which has to take them all.
 abbrev pub requested : List Text → Option Seen
-requested words = asked.requested named (command_of how_list) seen_in words
+requested words = asked.requested named simple_command seen_in words

@@ -2,9 +2,11 @@
 ghost use Rattle.std.specs.Prelude.{◌≡◌, ◌≤◌, ◌<◌};
 ghost use Rattle.search_top.specs.Budget.{held_by, budget_of};
 
-use crate::limits::MEGABYTE;
 use crate::request::How;
 use gt_core::task::Task;
+
+// The bytes of a megabyte.
+const MEGABYTE: u64 = 1_048_576;
 
 // How many states so many bytes hold.
 fn held_by(how: How, task: &Task, bytes: u64) -> u32

@@ -2,20 +2,18 @@
 ghost use Rattle.std.specs.Prelude.{◌≡◌, IfOk};
 ghost use Rattle.clap.specs.Words.{app_of};
 ghost use Rattle.requests.specs.Arguments.{TakesWords};
-ghost use Rattle.search_top.specs.Command.{command_of, named, how_words, word_of};
+ghost use Rattle.search_top.specs.Command.{command_of, named, list_words};
 
-use crate::limits::{MOST_MEMORY, MOST_OBLIGATIONS, MOST_STATES};
+use crate::limits::{MOST_COUNT, MOST_MEMORY};
 use clap::Command;
 use clap::builder::ValueParser;
 use requests::{Argument, with_all};
 use std::alloc::{AllocError, Global};
 
 // The greatest numbers, in the type of a command line's numbers.
-const GREATEST_STATES: i64 = MOST_STATES as i64;
+const GREATEST_COUNT: i64 = MOST_COUNT as i64;
 
 const GREATEST_MEMORY: i64 = MOST_MEMORY as i64;
-
-const GREATEST_BUDGET: i64 = MOST_OBLIGATIONS as i64;
 
 /// The commands, by the word that names each.
 #[derive(Clone, Copy)]
@@ -24,9 +22,13 @@ pub enum Name {
     Never,
     NeverSearch,
     System,
+    NeverFormula,
+    NeverJudge,
 }
 
 static HOW: [&str; 2] = ["greedy", "least"];
+
+static FORMATS: [&str; 2] = ["blif", "aiger"];
 
 /// The command that a word names.
 pub(crate) fn name_of(word: &str) -> Option<Name>
@@ -37,15 +39,21 @@ pub(crate) fn name_of(word: &str) -> Option<Name>
         "never" => Some(Name::Never),
         "never-search" => Some(Name::NeverSearch),
         "system" => Some(Name::System),
+        "never-formula" => Some(Name::NeverFormula),
+        "never-judge" => Some(Name::NeverJudge),
         _ => None,
     }
 }
 
-/// The reader of how a walk goes.
-pub(crate) fn how_reader() -> ValueParser<'static>
-    ensures { TakesWords how_words result }
+/// The reader of the option of a command that takes a word of a list.
+pub(crate) fn list_reader(name: Name) -> ValueParser<'static>
+    ensures { TakesWords (list_words name) result }
 {
-    ValueParser::Names(HOW.as_slice())
+    match name {
+        Name::System => ValueParser::Names(FORMATS.as_slice()),
+        Name::Search | Name::Never | Name::NeverSearch => ValueParser::Names(HOW.as_slice()),
+        Name::NeverFormula | Name::NeverJudge => ValueParser::Names(HOW.as_slice()),
+    }
 }
 
 /// The command of this name.
@@ -56,40 +64,32 @@ pub(crate) fn command_by<'a>(
 ) -> Result<Command<'a>, AllocError>
     ensures { IfOk result (λ c. app_of c ≡ command_of by.entry name) }
 {
+    let domain = Argument::Word("domain");
+    let problem = Argument::Word("problem");
+    let certificate = Argument::Word("certificate");
     match name {
-        Name::Search => with_all(
-            alloc,
-            "search",
-            &[
-                Argument::Word("domain"),
-                Argument::Word("problem"),
-                Argument::Long("how", by, "greedy"),
-                Argument::Long(
-                    "states",
-                    ValueParser::Signed(1, GREATEST_STATES),
-                    "4294967295",
-                ),
-                Argument::Long("memory", ValueParser::Signed(1, GREATEST_MEMORY), "1024"),
-            ],
-        ),
-        Name::Never => with_all(
-            alloc,
-            "never",
-            &[Argument::Word("domain"), Argument::Words("problem")],
-        ),
-        Name::System => with_all(
-            alloc,
-            "system",
-            &[Argument::Word("domain"), Argument::Word("problem")],
-        ),
-        Name::NeverSearch => with_all(
-            alloc,
-            "never-search",
-            &[
-                Argument::Word("domain"),
-                Argument::Word("problem"),
-                Argument::Long("budget", ValueParser::Signed(1, GREATEST_BUDGET), "1000000"),
-            ],
-        ),
+        Name::Search => {
+            let how = Argument::Long("how", by, "greedy");
+            let states = ValueParser::Signed(1, GREATEST_COUNT);
+            let states = Argument::Long("states", states, "4294967295");
+            let memory = ValueParser::Signed(1, GREATEST_MEMORY);
+            let memory = Argument::Long("memory", memory, "1024");
+            with_all(alloc, "search", &[domain, problem, how, states, memory])
+        }
+        Name::Never => with_all(alloc, "never", &[domain, Argument::Words("problem")]),
+        Name::NeverSearch => {
+            let budget = ValueParser::Signed(1, GREATEST_COUNT);
+            let budget = Argument::Long("budget", budget, "1000000");
+            with_all(alloc, "never-search", &[domain, problem, budget])
+        }
+        Name::System => {
+            let format = Argument::Long("format", by, "blif");
+            with_all(alloc, "system", &[domain, problem, format])
+        }
+        Name::NeverFormula => with_all(alloc, "never-formula", &[domain, problem, certificate]),
+        Name::NeverJudge => {
+            let proof = Argument::Word("proof");
+            with_all(alloc, "never-judge", &[domain, problem, certificate, proof])
+        }
     }
 }

@@ -32,8 +32,10 @@ pub enum Finding {
     Planned,
     /// That is open.
     Open,
-    /// What was handed in is no certificate.
+    /// What was handed in is no certificate, or none of the kind that is wanted, or no proof.
     Refused,
+    /// A line of a proof is too long.
+    Past,
 }
 
 /// How a run ends, but for want of memory and a write fault.
@@ -99,6 +101,10 @@ impl RunEnd for Ended {
                 finding: Finding::Refused,
                 ..
             } => 3,
+            Ended::Shown {
+                finding: Finding::Past,
+                ..
+            } => 4,
             Ended::Usage => 7,
         }
     }
@@ -108,7 +114,9 @@ impl RunEnd for Ended {
             Ended::Plain(ending) => ending.text(alloc),
             Ended::Walked { text, .. } => Ok(Due::Made(text)),
             Ended::Shown { text, .. } => Ok(Due::Made(text)),
-            Ended::Usage => Ok(Due::Fixed("; usage: search, never, never-search or system\n")),
+            Ended::Usage => Ok(Due::Fixed(
+                "; usage: search, never, never-search, never-formula, never-judge or system\n",
+            )),
         }
     }
 }

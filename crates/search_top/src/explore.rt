@@ -1,18 +1,18 @@
 //! What the bytes of a domain and a problem come to where a certificate is searched for, or the task is told as a transition system.
 ghost use Rattle.std.specs.Prelude.{◌≡◌, ◌≤◌, length, OnOk, IfOk};
 ghost use Rattle.containers.specs.Limits.{most_bytes};
-ghost use Rattle.never_system.specs.Blif.{blif};
 ghost use Rattle.search_top.specs.Answers.{EndsWith, OnceReady};
-ghost use Rattle.search_top.specs.Explored.{IsExplored, ended_explored, IsSmallFound, AnswersExplore, AnswersSystem};
+ghost use Rattle.search_top.specs.Explored.{IsExplored, ended_explored, IsSmallFound, AnswersExplore, AnswersSystem, system_text};
 ghost use Rattle.search_top.specs.own.Below.{IsFoundBelow};
 
 use crate::ended::{Ended, Finding};
 use crate::report::push_end;
-use crate::request::How;
+use crate::request::{Format, How};
 use grounder::Grounded;
 use gt_core::task::Task;
 use never_search::answer::{Answer, End};
 use never_search::search::search;
+use never_system::aiger::put_aiger;
 use never_system::blif::put_blif;
 use never_text::write::put_clauses;
 use pd_model::{Memory, Pddl};
@@ -91,22 +91,30 @@ pub(crate) fn answer_explore<H: Threads + Sync>(
     Ok(end)
 }
 
-// The text of a task as a transition system.
-fn system_text(alloc: Global, task: &Task) -> Result<Bytes, Memory>
-    ensures { IfOk result (λ text. text ≡ blif task.now) }
+// The text of a task as a transition system, in a format.
+fn system_text(alloc: Global, format: Format, task: &Task) -> Result<Bytes, Memory>
+    ensures { IfOk result (λ text. text ≡ system_text format task.now) }
 {
     let mut text = Vec::new(alloc);
-    put_blif(alloc, &mut text, task)?;
+    match format {
+        Format::Blif => put_blif(alloc, &mut text, task)?,
+        Format::Aiger => put_aiger(alloc, &mut text, task)?,
+    }
     Ok(Bytes::of(text))
 }
 
 /// What a domain and a problem come to for the command `system`.
-pub(crate) fn answer_system(alloc: Global, domain: &[u8], problem: &[u8]) -> Result<Ended, Stop>
+pub(crate) fn answer_system(
+    alloc: Global,
+    domain: &[u8],
+    problem: &[u8],
+    format: Format,
+) -> Result<Ended, Stop>
     requires domain_fits { length domain.now ≤ most_bytes }
     requires problem_fits { length problem.now ≤ most_bytes }
-    ensures { EndsWith (OnceReady domain.now problem.now AnswersSystem) result }
+    ensures { EndsWith (OnceReady domain.now problem.now (AnswersSystem format)) result }
 {
     let ready = read_ready(alloc, domain, problem)?;
-    let text = system_text(alloc, ready.grounded.task())?;
+    let text = system_text(alloc, format, ready.grounded.task())?;
     Ok(Ended::Plain(Ending::Listing(text)))
 }

@@ -19,6 +19,7 @@ mod limits;
 mod never;
 mod never_report;
 mod read;
+mod refute;
 mod report;
 mod request;
 mod search;
@@ -28,6 +29,6 @@ mod walk;
 
 pub use ended::{Ended, Finding, Outcome};
 pub use judged::Judgement;
-pub use limits::{MOST_MEMORY, MOST_OBLIGATIONS, MOST_STATES};
+pub use limits::{MOST_COUNT, MOST_MEMORY};
 pub use plan_endings::Status;
-pub use request::{How, Request};
+pub use request::{Format, How, Request};

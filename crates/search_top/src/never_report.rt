@@ -123,7 +123,7 @@ fn push_judgement(p: &Pddl, g: &Grounded, said: Judgement, text: &mut Vec<u8>) -
     ensures { OnOk result (text.new.items ≡ text.old.items ++ judgement_line p.now g.now said) }
 {
     match said {
-        Judgement::Faulty { at } => push_counted(b"; refused syntax proof ", at, text),
+        Judgement::Faulty { at } => push_counted(b"; refused syntax certificate ", at, text),
         Judgement::Clauses(count) => push_counted(
             b"; no plan of any length, clauses ",
             u64::from(count),

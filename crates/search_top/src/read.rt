@@ -14,10 +14,10 @@ ghost use Rattle.clap.specs.Words.{app_of, found_of, rows_of};
 ghost use Rattle.requests.specs.Fit.{IsFit};
 ghost use Rattle.requests.specs.Passed.{Passed};
 ghost use Rattle.requests.specs.Same.{IsSame};
-ghost use Rattle.search_top.specs.Command.{command_of, named, how_list, Has};
+ghost use Rattle.search_top.specs.Command.{simple_command, named, Has};
 ghost use Rattle.search_top.specs.Seen.{Seen, seen, seen_in, IsSized};
 
-use crate::command::{Name, command_by, how_reader, name_of};
+use crate::command::{Name, command_by, list_reader, name_of};
 use crate::request::Request;
 use crate::values::request_in;
 use clap::{ArgMatches, Command};
@@ -35,7 +35,7 @@ impl<'a> Asked<'a> for Request<'a> {
 
     ghost named = { named };
 
-    ghost command = { command_of how_list };
+    ghost command = { simple_command };
 
     ghost has_values = { Has };
 
@@ -49,10 +49,10 @@ impl<'a> Asked<'a> for Request<'a> {
 
     fn command_for(alloc: Global, name: Name) -> Result<Command<'a>, AllocError>
         ensures fit { IfOk result (λ c. IsFit (app_of c)) }
-        ensures same { IfOk result (λ c. IsSame (app_of c) (command_of how_list name)) }
+        ensures same { IfOk result (λ c. IsSame (app_of c) (simple_command name)) }
         ensures values { IfOk result (λ c. (rows : List Row) → Passed (app_of c).top.rules rows → Has name rows) }
     {
-        command_by(alloc, name, how_reader())
+        command_by(alloc, name, list_reader(name))
     }
 
     fn request_in(

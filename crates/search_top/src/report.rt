@@ -1,6 +1,5 @@
 //! The text that tells what a walk came to.
-ghost use Rattle.std.specs.Prelude.{◌≡◌, ◌<◌, ◌∷◌, ◌++◌, [], map, length, OnOk, IfOk};
-ghost use Rattle.std.specs.List.{flat_map, AllByRecursion};
+ghost use Rattle.std.specs.Prelude.{◌≡◌, ◌<◌, ◌∷◌, ◌++◌, [], length, OnOk, IfOk};
 ghost use Rattle.report_lines.specs.Lines.{joined};
 ghost use Rattle.plan_report.specs.Report.{action_text};
 ghost use Rattle.search_top.specs.Report.{outcome_of, states_line, plan_words, plan_line, end_lines, report_of, IsSmallEnd, IsSmallAnswer};
@@ -11,7 +10,7 @@ use crate::request::How;
 use grounder::Grounded;
 use pd_model::{Memory, Pddl};
 use pl_io::Bytes;
-use plan_report::push_call;
+use plan_report::{push_actions, push_call};
 use report_lines::push_number;
 use state_search::answer::{Answer, End};
 use std::alloc::Global;
@@ -66,27 +65,6 @@ pub(crate) fn push_call_of(p: &Pddl, g: &Grounded, a: u32, text: &mut Vec<u8>) -
     ensures { OnOk result (text.new.items ≡ text.old.items ++ action_text p.now g.now a) }
 {
     push_call(p, g.call(a), text)
-}
-
-// Appends the line of an action's call.
-fn push_action(p: &Pddl, g: &Grounded, a: u32, text: &mut Vec<u8>) -> Result<(), Memory>
-    requires { a < length g.now.calls }
-    ensures { OnOk result (text.new.items ≡ text.old.items ++ joined (action_text p.now g.now a ∷ [])) }
-{
-    push_call_of(p, g, a, text)?;
-    text.extend_from_slice(b"\n")?;
-    Ok(())
-}
-
-// Appends the lines of the calls of actions.
-fn push_actions(p: &Pddl, g: &Grounded, actions: &[u32], text: &mut Vec<u8>) -> Result<(), Memory>
-    requires { AllByRecursion (λ a. a < length g.now.calls) actions.now }
-    ensures { OnOk result (text.new.items ≡ text.old.items ++ flat_map (λ a. joined (action_text p.now g.now a ∷ [])) actions.now) }
-{
-    for a in actions {
-        push_action(p, g, *a, text)?;
-    }
-    Ok(())
 }
 
 /// Appends the lines of how a walk ended.

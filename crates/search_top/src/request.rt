@@ -14,6 +14,15 @@ pub enum How {
     Least,
 }
 
+/// A format of transition systems.
+#[derive(Clone, Copy, PartialEq, Eq)]
+pub enum Format {
+    /// The Berkeley Logic Interchange Format.
+    Blif,
+    /// AIGER, as text.
+    Aiger,
+}
+
 /// What is asked for. A file is named by its word.
 #[derive(Clone, Copy)]
 pub enum Request<'a> {
@@ -42,15 +51,29 @@ pub enum Request<'a> {
         problem: &'a str,
         budget: u32,
     },
-    /// The ground task as a transition system.
+    /// The ground task as a transition system, in a format.
     System {
         domain: &'a str,
         problem: &'a str,
+        format: Format,
+    },
+    /// The formula of a certificate.
+    NeverFormula {
+        domain: &'a str,
+        problem: &'a str,
+        certificate: &'a str,
+    },
+    /// Whether a proof refutes the formula of a certificate.
+    NeverJudge {
+        domain: &'a str,
+        problem: &'a str,
+        certificate: &'a str,
+        proof: &'a str,
     },
 }
 
 impl<'a> Request<'a> {
-    /// The names of the files, in the order of the words.
+    /// The names of the files that are taken from the shelf, in the order of the words.
     pub fn names(&self) -> Names<'a>
         ensures { names_in result ≡ names_of (seen self.now) }
     {
@@ -61,7 +84,11 @@ impl<'a> Request<'a> {
                 ..
             }
             | Request::Never { domain, problem }
-            | Request::System { domain, problem }
+            | Request::System {
+                domain,
+                problem,
+                ..
+            }
             | Request::NeverSearch {
                 domain,
                 problem,
@@ -75,6 +102,17 @@ impl<'a> Request<'a> {
                 domain,
                 problem,
                 certificate,
+            }
+            | Request::NeverFormula {
+                domain,
+                problem,
+                certificate,
+            }
+            | Request::NeverJudge {
+                domain,
+                problem,
+                certificate,
+                ..
             } => Names {
                 domain,
                 problem,

@@ -3,11 +3,11 @@ ghost use Rattle.std.specs.Prelude.{◌≡◌, codes, option_map, IfSome};
 ghost use Rattle.clap.specs.Words.{found_of, rows_of};
 ghost use Rattle.requests.specs.Passed.{text_at};
 ghost use Rattle.search_top.specs.Command.{Has};
-ghost use Rattle.search_top.specs.Seen.{seen, seen_in, how_of, IsSized};
+ghost use Rattle.search_top.specs.Seen.{seen, seen_in, how_of, format_of, IsSized};
 
 use crate::command::Name;
-use crate::limits::{MOST_MEMORY, MOST_OBLIGATIONS, MOST_STATES};
-use crate::request::{How, Request};
+use crate::limits::{MOST_COUNT, MOST_MEMORY};
+use crate::request::{Format, How, Request};
 use clap::ArgMatches;
 use requests::{number, text, texts};
 
@@ -18,6 +18,16 @@ fn how_in(matches: &ArgMatches<'_>) -> How
     match text(matches, "how") {
         "least" => How::Least,
         _ => How::Greedy,
+    }
+}
+
+// The format of a transition system.
+fn format_in(matches: &ArgMatches<'_>) -> Format
+    ensures { result ≡ format_of (text_at (codes "format") (rows_of (found_of matches.now))) }
+{
+    match text(matches, "format") {
+        "aiger" => Format::Aiger,
+        _ => Format::Blif,
     }
 }
 
@@ -32,18 +42,30 @@ pub(crate) fn request_in<'a>(name: Name, matches: &ArgMatches<'a>) -> Option<Req
             domain: text(matches, "domain"),
             problem: text(matches, "problem"),
             how: how_in(matches),
-            states: number(matches, "states", 1, MOST_STATES),
+            states: number(matches, "states", 1, MOST_COUNT),
             memory: number(matches, "memory", 1, MOST_MEMORY),
         }),
         Name::Never => never_in(matches),
         Name::System => Some(Request::System {
             domain: text(matches, "domain"),
             problem: text(matches, "problem"),
+            format: format_in(matches),
+        }),
+        Name::NeverFormula => Some(Request::NeverFormula {
+            domain: text(matches, "domain"),
+            problem: text(matches, "problem"),
+            certificate: text(matches, "certificate"),
+        }),
+        Name::NeverJudge => Some(Request::NeverJudge {
+            domain: text(matches, "domain"),
+            problem: text(matches, "problem"),
+            certificate: text(matches, "certificate"),
+            proof: text(matches, "proof"),
         }),
         Name::NeverSearch => Some(Request::NeverSearch {
             domain: text(matches, "domain"),
             problem: text(matches, "problem"),
-            budget: number(matches, "budget", 1, MOST_OBLIGATIONS),
+            budget: number(matches, "budget", 1, MOST_COUNT),
         }),
     }
 }

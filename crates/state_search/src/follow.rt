@@ -3,7 +3,7 @@
 
 ghost use Rattle.std.specs.Prelude.{◌≡◌, ◌<◌, ◌≤◌, length, IfOk};
 ghost use Rattle.state_store.specs.Packed.{unpacked, IsPacked, width_of};
-ghost use Rattle.successors.specs.Trie.{IsTrie};
+ghost use Rattle.successors.specs.Ways.{IsWays};
 ghost use Rattle.state_search.specs.Answer.{IsAnswer, IsEnd};
 ghost use Rattle.state_search.specs.Room.{IsRoom};
 ghost use Rattle.state_search.specs.own.Walk.{IsWalk, HasNoGoal};
@@ -20,6 +20,7 @@ use state_store::store::Store;
 use std::alloc::Global;
 use successors::next::{copy, is_goal};
 use successors::trie::Trie;
+use successors::ways::Ways;
 
 /// A stored state, and an action in it.
 #[derive(Clone, Copy)]
@@ -40,11 +41,13 @@ pub trait Proposer {
 /// Tries what was proposed.
 fn offered(
     task: &Task,
+    ways: &Ways,
     store: &mut Store,
     before: &mut Vec<u64>,
     after: &mut Vec<u64>,
     offer: Offer,
 ) -> Proposed
+    requires ways { IsWays task.now ways.now }
     requires walk { IsWalk task.now store.old }
     requires before { length before.old.items ≡ width_of task.now.facts }
     requires after { length after.old.items ≡ width_of task.now.facts }
@@ -58,20 +61,20 @@ fn offered(
         return Proposed::Unable;
     }
     copy(store.row(offer.parent), before);
-    propose(task, store, before, after, offer.parent, offer.act)
+    propose(task, ways, store, before, after, offer.parent, offer.act)
 }
 
 /// Goes after all that is proposed, and sweeps what is left.
 fn follow_all<P: Proposer>(
     alloc: Global,
     task: &Task,
-    trie: &Trie,
+    ways: &Ways,
     store: &mut Store,
     before: &mut Vec<u64>,
     after: &mut Vec<u64>,
     proposer: &mut P,
 ) -> Result<End, Memory>
-    requires trie { IsTrie task.now trie.now }
+    requires ways { IsWays task.now ways.now }
     requires walk { IsWalk task.now store.old }
     requires no_goal { HasNoGoal task.now store.old.states }
     requires before { length before.old.items ≡ width_of task.now.facts }
@@ -84,22 +87,22 @@ fn follow_all<P: Proposer>(
     ensures after { length after.new.items ≡ length after.old.items }
 {
     for _turn in 0..u64::MAX {
-        let Some(offer) = proposer.next(trie, store) else {
+        let Some(offer) = proposer.next(&ways.trie, store) else {
             break;
         };
-        match offered(task, store, before, after, offer) {
+        match offered(task, ways, store, before, after, offer) {
             Proposed::Entered => {
                 if is_goal(task, after) {
                     return plan_of(alloc, task, store);
                 }
-                proposer.entered(task, trie, store.len() - 1, after)?;
+                proposer.entered(task, &ways.trie, store.len() - 1, after)?;
             }
             Proposed::Full => return Ok(End::Unfinished),
             Proposed::Unable => {}
             Proposed::Known => {}
         }
     }
-    sweep_all(alloc, task, trie, store, before, after)
+    sweep_all(alloc, task, ways, store, before, after)
 }
 
 /// A plan, or that there is none of any length, by entering so many states at most, where a proposer leads. The room serves the next
@@ -130,11 +133,11 @@ pub fn follow_in<P: Proposer>(
     if is_goal_at_once(task, task.init()) {
         return Ok(answer_of(task, &room.store, End::Plan(Actions::new(alloc))));
     }
-    proposer.entered(task, &room.trie, 0, &room.first)?;
+    proposer.entered(task, &room.ways.trie, 0, &room.first)?;
     let end = follow_all(
         alloc,
         task,
-        &room.trie,
+        &room.ways,
         &mut room.store,
         &mut room.before,
         &mut room.after,

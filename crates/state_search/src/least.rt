@@ -36,7 +36,7 @@ pub fn least(alloc: Global, task: &Task, most: u32) -> Result<Answer, Memory>
     let end = sweep_all(
         alloc,
         task,
-        &room.trie,
+        &room.ways,
         &mut room.store,
         &mut room.before,
         &mut room.after,

@@ -8,13 +8,13 @@ use gt_core::task::Task;
 use state_store::pack::row_of;
 use state_store::store::Store;
 use std::alloc::Global;
-use successors::trie::Trie;
+use successors::ways::Ways;
 
-/// Room for the states of a walk, the actions of the task in a trie, its initial state as a row, and two rows for states at hand.
+/// Room for the states of a walk, the actions of the task, its initial state as a row, and two rows for states at hand.
 #[derive(Drop)]
 pub struct Room {
     pub store: Store,
-    pub trie: Trie,
+    pub ways: Ways,
     pub first: Vec<u64>,
     pub before: Vec<u64>,
     pub after: Vec<u64>,
@@ -33,7 +33,7 @@ impl Room {
         let first = row_of(alloc, task.init())?;
         Ok(Room {
             store,
-            trie: Trie::new(alloc, task)?,
+            ways: Ways::new(alloc, task)?,
             before: Vec::from_slice(alloc, &first)?,
             after: Vec::from_slice(alloc, &first)?,
             first,

@@ -2,7 +2,8 @@
 
 ghost use Rattle.std.specs.Prelude.{◌≡◌, ◌+◌, ◌<◌, ◌≤◌, Some, length, slice_get, slice_index, IfOk};
 ghost use Rattle.state_store.specs.Packed.{unpacked, IsPacked, width_of};
-ghost use Rattle.successors.specs.Trie.{IsTrie, IsBefore};
+ghost use Rattle.successors.specs.Trie.{IsBefore};
+ghost use Rattle.successors.specs.Ways.{IsWays};
 ghost use Rattle.state_search.specs.Answer.{IsEnd, IsLeast};
 ghost use Rattle.state_search.specs.own.Walk.{IsWalk, none_tried};
 ghost use Rattle.state_search.specs.own.Closing.{IsClosing, IsGoalLast, IsClosedOff};
@@ -18,7 +19,7 @@ use state_store::store::Store;
 use std::alloc::Global;
 use successors::next::{copy, is_goal};
 use successors::row::holds;
-use successors::trie::Trie;
+use successors::ways::Ways;
 
 /// What came of sweeping: so much is closed, or a goal was entered last, or there is no room.
 #[derive(Clone, Copy, PartialEq, Eq)]
@@ -31,7 +32,7 @@ pub(crate) enum Swept {
 /// Tries the actions from one place of the trie to another one in a stored state, until one leads to a goal.
 fn sweep_part(
     task: &Task,
-    trie: &Trie,
+    ways: &Ways,
     store: &mut Store,
     before: &[u64],
     after: &mut Vec<u64>,
@@ -39,22 +40,30 @@ fn sweep_part(
     from: usize,
     to: usize,
 ) -> Swept
-    requires trie { IsTrie task.now trie.now }
+    requires ways { IsWays task.now ways.now }
     requires rising { from ≤ to }
-    requires within { to ≤ length trie.now.acts }
-    requires closing { IsClosing task.now store.old number (IsBefore trie.now.acts from) }
+    requires within { to ≤ length ways.now.trie.acts }
+    requires closing { IsClosing task.now store.old number (IsBefore ways.now.trie.acts from) }
     requires packed { IsPacked task.now.facts before.now }
     requires at { slice_get store.old.states number ≡ Some (unpacked task.now.facts before.now) }
     requires after { length after.old.items ≡ length before.now }
-    ensures closing { IsClosedOff task.now store.new number (IsBefore trie.now.acts to) result }
-    ensures breadth { IsBreadth task.now store.old number (IsBefore trie.now.acts from) → IsSwept task.now store.new number (IsBefore trie.now.acts to) result }
+    ensures closing { IsClosedOff task.now store.new number (IsBefore ways.now.trie.acts to) result }
+    ensures breadth { IsBreadth task.now store.old number (IsBefore ways.now.trie.acts from) → IsSwept task.now store.new number (IsBefore ways.now.trie.acts to) result }
     ensures at { slice_get store.new.states number ≡ Some (unpacked task.now.facts before.now) }
     ensures most { store.new.most ≡ store.old.most }
     ensures room { store.new.room ≡ store.old.room }
     ensures after { length after.new.items ≡ length after.old.items }
 {
     for place in from..to {
-        match propose(task, store, before, after, number, trie.act(place)) {
+        match propose(
+            task,
+            ways,
+            store,
+            before,
+            after,
+            number,
+            ways.trie.act(place),
+        ) {
             Proposed::Entered => {
                 if is_goal(task, after) {
                     return Swept::Goal;
@@ -71,19 +80,19 @@ fn sweep_part(
 /// Tries the actions of the nodes of the trie in a stored state, until one leads to a goal.
 fn sweep_nodes(
     task: &Task,
-    trie: &Trie,
+    ways: &Ways,
     store: &mut Store,
     before: &[u64],
     after: &mut Vec<u64>,
     number: u32,
 ) -> Swept
-    requires trie { IsTrie task.now trie.now }
-    requires closing { IsClosing task.now store.old number (IsBefore trie.now.acts (slice_index trie.now.froms 0)) }
+    requires ways { IsWays task.now ways.now }
+    requires closing { IsClosing task.now store.old number (IsBefore ways.now.trie.acts (slice_index ways.now.trie.froms 0)) }
     requires packed { IsPacked task.now.facts before.now }
     requires at { slice_get store.old.states number ≡ Some (unpacked task.now.facts before.now) }
     requires after { length after.old.items ≡ length before.now }
     ensures closing { IsClosedOff task.now store.new (number + 1) none_tried result }
-    ensures breadth { IsBreadth task.now store.old number (IsBefore trie.now.acts (slice_index trie.now.froms 0)) → IsSwept task.now store.new (number + 1) none_tried result }
+    ensures breadth { IsBreadth task.now store.old number (IsBefore ways.now.trie.acts (slice_index ways.now.trie.froms 0)) → IsSwept task.now store.new (number + 1) none_tried result }
     ensures most { store.new.most ≡ store.old.most }
     ensures room { store.new.room ≡ store.old.room }
     ensures after { length after.new.items ≡ length after.old.items }
@@ -91,20 +100,20 @@ fn sweep_nodes(
     // For the proof: the task is lawful.
     let _facts = task.facts();
     let mut node = 0usize;
-    while node < trie.len() {
-        if !holds(before, trie.lit(node)) {
-            node = trie.skip(node);
+    while node < ways.trie.len() {
+        if !holds(before, ways.trie.lit(node)) {
+            node = ways.trie.skip(node);
             continue;
         }
-        let to = trie.from(node + 1);
+        let to = ways.trie.from(node + 1);
         match sweep_part(
             task,
-            trie,
+            ways,
             store,
             before,
             after,
             number,
-            trie.from(node),
+            ways.trie.from(node),
             to,
         ) {
             Swept::Closed => node += 1,
@@ -118,13 +127,13 @@ fn sweep_nodes(
 /// Tries each action that can run in a stored state, until one leads to a goal.
 fn sweep(
     task: &Task,
-    trie: &Trie,
+    ways: &Ways,
     store: &mut Store,
     before: &mut Vec<u64>,
     after: &mut Vec<u64>,
     number: u32,
 ) -> Swept
-    requires trie { IsTrie task.now trie.now }
+    requires ways { IsWays task.now ways.now }
     requires closing { IsClosing task.now store.old number none_tried }
     requires number { number < length store.old.states }
     requires before { length before.old.items ≡ width_of task.now.facts }
@@ -137,8 +146,17 @@ fn sweep(
     ensures after { length after.new.items ≡ length after.old.items }
 {
     copy(store.row(number), before);
-    match sweep_part(task, trie, store, before, after, number, 0, trie.from(0)) {
-        Swept::Closed => sweep_nodes(task, trie, store, before, after, number),
+    match sweep_part(
+        task,
+        ways,
+        store,
+        before,
+        after,
+        number,
+        0,
+        ways.trie.from(0),
+    ) {
+        Swept::Closed => sweep_nodes(task, ways, store, before, after, number),
         Swept::Goal => Swept::Goal,
         Swept::Full => Swept::Full,
     }
@@ -161,12 +179,12 @@ pub(crate) fn plan_of(alloc: Global, task: &Task, store: &Store) -> Result<End, 
 pub(crate) fn sweep_all(
     alloc: Global,
     task: &Task,
-    trie: &Trie,
+    ways: &Ways,
     store: &mut Store,
     before: &mut Vec<u64>,
     after: &mut Vec<u64>,
 ) -> Result<End, Memory>
-    requires trie { IsTrie task.now trie.now }
+    requires ways { IsWays task.now ways.now }
     requires closing { IsClosing task.now store.old 0 none_tried }
     requires before { length before.old.items ≡ width_of task.now.facts }
     requires after { length after.old.items ≡ width_of task.now.facts }
@@ -183,7 +201,7 @@ pub(crate) fn sweep_all(
     let _facts = task.facts();
     let mut number = 0;
     while number < store.len() {
-        match sweep(task, trie, store, before, after, number) {
+        match sweep(task, ways, store, before, after, number) {
             Swept::Closed => number += 1,
             Swept::Goal => return plan_of(alloc, task, store),
             Swept::Full => return Ok(End::Unfinished),

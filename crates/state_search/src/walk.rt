@@ -4,6 +4,7 @@ ghost use Rattle.std.specs.Prelude.{◌≡◌, ◌<◌, ◌≤◌, ◌∷◌, []
 ghost use Rattle.gt_core.specs.Literal.{state_of};
 ghost use Rattle.gt_core.specs.Execution.{IsGoal, next_values};
 ghost use Rattle.state_store.specs.Packed.{unpacked, IsPacked};
+ghost use Rattle.successors.specs.Ways.{IsWays};
 ghost use Rattle.state_search.specs.own.Walk.{IsWalk, IsProposed};
 ghost use Rattle.state_search.specs.declared.walk.Proposed.TheVariants.{Entered};
 
@@ -11,6 +12,7 @@ use gt_core::task::Task;
 use state_store::store;
 use state_store::store::Store;
 use successors::next::next;
+use successors::ways::Ways;
 
 /// What came of an action that was proposed: it cannot run there, or leads to a known state, or to a new one, which was entered
 /// as the last one; or to one for which there is no room.
@@ -41,12 +43,14 @@ pub fn is_goal(task: &Task, state: &[bool]) -> bool
 /// becomes the row of that state.
 pub fn propose(
     task: &Task,
+    ways: &Ways,
     store: &mut Store,
     before: &[u64],
     after: &mut Vec<u64>,
     parent: u32,
     act: u32,
 ) -> Proposed
+    requires ways { IsWays task.now ways.now }
     requires walk { IsWalk task.now store.old }
     requires packed { IsPacked task.now.facts before.now }
     requires parent { slice_get store.old.states parent ≡ Some (unpacked task.now.facts before.now) }
@@ -58,7 +62,7 @@ pub fn propose(
     ensures packed { result ≡ Entered → IsPacked task.now.facts after.new.items }
     ensures long { length after.new.items ≡ length after.old.items }
 {
-    if !next(task, before, act, after) {
+    if !next(task, &ways.moves, before, act, after) {
         return Proposed::Unable;
     }
     match store.enter(after, parent, act) {

@@ -1,3 +1,4 @@
+pub mod MovesLaw
 pub mod RowState
 pub mod TrieLaw
 pub mod published

@@ -11,7 +11,7 @@ use Rattle.gt_core.specs.Task.{Effect, Task, action}
 use Rattle.gt_core.specs.Lawful.{is_task}
 use Rattle.gt_core.specs.Active.{is_active, EffectWithin}
 use Rattle.gt_core.specs.Execution.{Runs, next_of_one, next_values, IsGoal}
-use Rattle.gt_core.proofs.published.Basics.{each_at, each_from, all_same, not_true, test_same, apart}
+use Rattle.gt_core.proofs.published.Basics.{each_at, each_from, all_same, not_true, same_if, same_test, test_same, apart}
 use Rattle.gt_core.proofs.published.Literals.{holds_same}
 use Rattle.gt_core.proofs.published.Within.{lawful, literals_within, action_effects_within}
 use Rattle.gt_core.proofs.published.NextLaw.{settled, values_are}
@@ -84,16 +84,6 @@ module _ (task : Task) (lawful_task : is_task task ≡ true) (row : List ℕ) (i
         ∙ bit_after f
         ∙ sym ((run_agrees task lawful_task (a ∷ []) state (row_has row) value_of (runs, tt)).1 f lt))
 
--- the deletes and then the adds
-pub bits_after : (s : ℕ → Bool) (f : ℕ) (es deletes adds : List Effect) (copied row deleted added : List ℕ) → deletes ≡ es → adds ≡ es → copied ≡ row
-    → row_has deleted f ≡ (row_has copied f && not (list_any (is_active s (2 * f + 1)) deletes)) → row_has added f ≡ (list_any (is_active s (2 * f)) adds || row_has deleted f)
-    → row_has added f ≡ (list_any (is_active s (2 * f)) es || (row_has row f && not (list_any (is_active s (2 * f + 1)) es)))
-bits_after s f es deletes adds copied row deleted added d a same less more =
-    more
-    ∙ ap (λ (xs : List Effect). list_any (is_active s (2 * f)) xs || row_has deleted f) a
-    ∙ ap (λ (b : Bool). list_any (is_active s (2 * f)) es || b)
-    (less ∙ ap (λ (xs : List ℕ). row_has xs f && not (list_any (is_active s (2 * f + 1)) deletes)) same ∙ ap (λ (xs : List Effect). row_has row f && not (list_any (is_active s (2 * f + 1)) xs)) d)
-
 -- the words of a vector
 pub words_of : (row : List ℕ) → ((i d : ℕ) → i < length row → get_or row i d < 2 ^ 64) → AreWords row
 words_of row fit j = elim (cases_lt j (length row)) [
@@ -117,3 +107,19 @@ delete_moved false true true = refl
 delete_moved false true false = refl
 delete_moved false false true = refl
 delete_moved false false false = refl
+
+-- one fact of those that are left
+tested_back : (g f : ℕ) → (g == f) ≡ (f == g)
+tested_back g f = same_if (g == f) (f == g) (λ t. same_test f g (sym (test_same g f t))) (λ t. same_test g f (sym (test_same f g t)))
+
+pub set_moved : (g f : ℕ) (rest now : Bool) → (((g == f) || rest) || now) ≡ (rest || ((f == g) || now))
+set_moved g f rest now = ap (λ (b : Bool). (b || rest) || now) (tested_back g f) ∙ add_moved (f == g) rest now
+
+pub cleared_moved : (g f : ℕ) (rest now : Bool) → (now && not ((g == f) || rest)) ≡ ((not (f == g) && now) && not rest)
+cleared_moved g f rest now = ap (λ (b : Bool). now && not (b || rest)) (tested_back g f) ∙ delete_moved (f == g) rest now ∙ ap (λ (b : Bool). b && not rest) (swapped now (not (f == g)))
+  where
+    swapped : (x y : Bool) → (x && y) ≡ (y && x)
+    swapped true true = refl
+    swapped true false = refl
+    swapped false true = refl
+    swapped false false = refl

@@ -1,1 +1,4 @@
+pub mod Moves
 pub mod Trie
+pub mod Ways
+pub mod own

@@ -3,10 +3,12 @@ use Rattle.std.specs.Prelude.{nat_lt, nat_le, slice_index_or}
 use Rattle.std.specs.List.{list_all, AllByRecursion}
 use Rattle.std.proofs.lemmas.Bool.Decides.{nat_tests}
 use Rattle.gt_core.specs.Task.{Effect, Task, action, precondition}
-use Rattle.gt_core.specs.Lawful.{are_rising, is_literal_set, are_effects, is_action, is_task, follows, conditional_in}
+use Rattle.gt_core.specs.Lawful.{are_rising, is_literal_set, are_effects, is_action, is_within, is_task, is_wide, follows, conditional_in}
 use Rattle.gt_core.specs.Active.{EffectWithin}
 use Rattle.gt_core.proofs.published.Basics.{Among, and_split, all_at, each_at, each_from}
-use Rattle.gt_core.specs.Limits.{most_facts, most_actions, most_conditional}
+use Rattle.gt_core.specs.Limits.{most_facts, most_actions, most_conditional, race_limits, wide_limits}
+use Rattle.gt_core.specs.declared.limits.Limits.{Limits}
+use Rattle.std.proofs.lemmas.Bool.{and_from, le-leb, eq-eqb}
 
 -- The literals of a task are in range.
 
@@ -32,7 +34,32 @@ effects_within facts last (d ∷ es) e =
     let lt : d.literal < 2 * facts = let t : nat_lt d.literal (2 * facts) ≡ true = y.0 in grind (arith, nat_tests) in
     (record { literal = lt; condition = literals_within facts d.condition z.0 }, effects_within facts (Some d) es z.1)
 
--- what a task keeps, by name
+-- what a task within limits keeps, by name
+pub record Keeps (l : Limits) (task : Task) : Type 0 where
+  pub facts : task.facts ≤ l.facts
+  pub actions : length task.actions ≤ l.actions
+  pub conditional : conditional_in task.actions ≤ l.conditional
+  pub initial : length task.initial ≡ task.facts
+  pub goal : is_literal_set task.facts task.goal ≡ true
+  pub each : list_all (is_action task.facts) task.actions ≡ true
+
+pub keeps : (l : Limits) (task : Task) → is_within l task ≡ true → Keeps l task
+keeps l task e =
+    let a = and_split (nat_le task.facts l.facts) _ e in
+    let b = and_split (nat_le (length task.actions) l.actions) _ a.1 in
+    let c = and_split (nat_le (conditional_in task.actions) l.conditional) _ b.1 in
+    let d = and_split (length task.initial == task.facts) _ c.1 in
+    let g = and_split (is_literal_set task.facts task.goal) _ d.1 in
+    record {
+      facts = let t : nat_le task.facts l.facts ≡ true = a.0 in grind (arith, nat_tests);
+      actions = let t : nat_le (length task.actions) l.actions ≡ true = b.0 in grind (arith, nat_tests);
+      conditional = let t : nat_le (conditional_in task.actions) l.conditional ≡ true = c.0 in grind (arith, nat_tests);
+      initial = let t : (length task.initial == task.facts) ≡ true = d.0 in grind (arith, nat_tests);
+      goal = g.0;
+      each = g.1;
+    }
+
+-- what a task keeps that is encoded, by name
 pub record Lawful (task : Task) : Type 0 where
   pub facts : task.facts ≤ most_facts
   pub actions : length task.actions ≤ most_actions
@@ -43,19 +70,8 @@ pub record Lawful (task : Task) : Type 0 where
 
 pub lawful : (task : Task) → is_task task ≡ true → Lawful task
 lawful task e =
-    let a = and_split (nat_le task.facts most_facts) _ e in
-    let b = and_split (nat_le (length task.actions) most_actions) _ a.1 in
-    let c = and_split (nat_le (conditional_in task.actions) most_conditional) _ b.1 in
-    let d = and_split (length task.initial == task.facts) _ c.1 in
-    let g = and_split (is_literal_set task.facts task.goal) _ d.1 in
-    record {
-      facts = let t : nat_le task.facts most_facts ≡ true = a.0 in grind (arith, nat_tests);
-      actions = let t : nat_le (length task.actions) most_actions ≡ true = b.0 in grind (arith, nat_tests);
-      conditional = let t : nat_le (conditional_in task.actions) most_conditional ≡ true = c.0 in grind (arith, nat_tests);
-      initial = let t : (length task.initial == task.facts) ≡ true = d.0 in grind (arith, nat_tests);
-      goal = g.0;
-      each = g.1;
-    }
+    let k = keeps race_limits task e in
+    record { facts = k.facts; actions = k.actions; conditional = k.conditional; initial = k.initial; goal = k.goal; each = k.each }
 
 -- an action of the list at its number is among the list
 pub among_at : {A : Type 0} (xs : List A) (k : ℕ) (d : A) → k < length xs → Among (slice_index_or xs k d) xs
@@ -63,13 +79,40 @@ among_at [] k d lt = absurd (omega arith)
 among_at (x ∷ xs) zero d lt = inl refl
 among_at (x ∷ xs) (suc k) d lt = inr (among_at xs k d (omega arith))
 
+-- each action of a task within limits is lawful
+action_in : (l : Limits) (task : Task) (a : ℕ) → is_within l task ≡ true → a < length task.actions → is_action task.facts (action task a) ≡ true
+action_in l task a e lt = all_at (is_action task.facts) task.actions (action task a) (keeps l task e).each (among_at task.actions a _ lt)
+
 pub action_lawful : (task : Task) (a : ℕ) → is_task task ≡ true → a < length task.actions → is_action task.facts (action task a) ≡ true
-action_lawful task a e lt = all_at (is_action task.facts) task.actions (action task a) (lawful task e).each (among_at task.actions a _ lt)
+action_lawful task a e lt = action_in race_limits task a e lt
 
 -- the literals of a precondition are of the task's facts
+pub precondition_in : (l : Limits) (task : Task) (a : ℕ) → is_within l task ≡ true → a < length task.actions → AllByRecursion (λ p. p / 2 < task.facts) (precondition task a)
+precondition_in l task a e lt = literals_within task.facts (precondition task a) (and_split (is_literal_set task.facts (precondition task a)) _ (action_in l task a e lt)).0
+
 pub precondition_within : (task : Task) (a : ℕ) → is_task task ≡ true → a < length task.actions → AllByRecursion (λ l. l / 2 < task.facts) (precondition task a)
-precondition_within task a e lt = literals_within task.facts (precondition task a) (and_split (is_literal_set task.facts (precondition task a)) _ (action_lawful task a e lt)).0
+precondition_within task a e lt = precondition_in race_limits task a e lt
 
 -- so are the literals of its effects
+pub action_effects_in : (l : Limits) (task : Task) (a : ℕ) → is_within l task ≡ true → a < length task.actions → AllByRecursion (EffectWithin task.facts) (action task a).effects
+action_effects_in l task a e lt = effects_within task.facts None (action task a).effects (and_split (is_literal_set task.facts (precondition task a)) _ (action_in l task a e lt)).1
+
 pub action_effects_within : (task : Task) (a : ℕ) → is_task task ≡ true → a < length task.actions → AllByRecursion (EffectWithin task.facts) (action task a).effects
-action_effects_within task a e lt = effects_within task.facts None (action task a).effects (and_split (is_literal_set task.facts (precondition task a)) _ (action_lawful task a e lt)).1
+action_effects_within task a e lt = action_effects_in race_limits task a e lt
+
+-- what is within limits is within wider ones
+pub within_wider : (l m : Limits) (task : Task) → l.facts ≤ m.facts → l.actions ≤ m.actions → l.conditional ≤ m.conditional → is_within l task ≡ true → is_within m task ≡ true
+within_wider l m task more_facts more_actions more_conditional e =
+    let h = keeps l task e in
+    let facts : task.facts ≤ m.facts = let le = h.facts in omega (arith, le, more_facts) in
+    let actions : length task.actions ≤ m.actions = let le = h.actions in omega (arith, le, more_actions) in
+    let conditional : conditional_in task.actions ≤ m.conditional = let le = h.conditional in omega (arith, le, more_conditional) in
+    and_from _ _ (le-leb task.facts m.facts facts)
+    (and_from _ _ (le-leb (length task.actions) m.actions actions)
+    (and_from _ _ (le-leb (conditional_in task.actions) m.conditional conditional)
+    (and_from _ _ (eq-eqb (length task.initial) task.facts h.initial)
+    (and_from _ _ h.goal h.each))))
+
+-- what can be encoded can be searched
+pub wide_task : (task : Task) → is_task task ≡ true → is_wide task ≡ true
+wide_task task e = within_wider race_limits wide_limits task (omega arith) (omega arith) (omega arith) e

@@ -5,7 +5,7 @@ use Rattle.plan_tasks.specs.Named.{third_bytes, bytes_of}
 use Rattle.plan_tasks.specs.Files.{NotesAmong}
 use Rattle.plan_tasks.proofs.published.Taking.{taken_short}
 use Rattle.judge_top.specs.Seen.{seen}
-use Rattle.judge_top.specs.Answers.{tape_run}
+use Rattle.proof_verdict.specs.Verdict.{tape_run}
 use Rattle.judge_top.proofs.Deciding.{both_taken, stops_for, taken_for, two_named}
 use Rattle.judge_top.proofs.Handed.{handed, weaker}
 use Rattle.judge_top.proofs.decide.decide_request.Goals as goal

@@ -1,7 +1,7 @@
 use Rattle.std.proofs.Common.{◌≡◌, ◌∙◌, ℕ, take, ap, rules}
 use Rattle.pl_io.specs.Tape.{given_more}
 use Rattle.sat_text.specs.Values.{refused_by}
-use Rattle.judge_top.specs.Answers.{tape_run}
+use Rattle.proof_verdict.specs.Verdict.{tape_run}
 use Rattle.judge_top.proofs.Given.{read_early}
 use Rattle.judge_top.proofs.model.read_given.Goals as goal
 

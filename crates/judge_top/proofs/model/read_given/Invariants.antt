@@ -1,4 +1,4 @@
-use Rattle.std.proofs.Common.{◌≡◌, ◌≤◌, length}
+use Rattle.std.proofs.Common.{◌≡◌, ◌≤◌, ◌<◌, length}
 use Rattle.pl_io.specs.declared.tape.Reading.TheVariants.{Goes}
 use Rattle.sat_text.specs.Stands.{HasRead}
 use Rattle.judge_top.proofs.model.read_given.Given as goal
@@ -7,7 +7,7 @@ use Rattle.judge_top.proofs.model.read_given.Given as goal
 abbrev pub invariant-reading : goal.invariant-reading
 invariant-reading g l = record {
   read : HasRead l.fn.variables (g.T.Tape.given l.tape).bytes l.reader;
-  long : length l.piece ≡ 65536;
+  some : 0 < length l.piece;
   faults : g.T.Tape.faults l.fn.tape ≤ g.T.Tape.faults l.tape;
   opened : (g.T.Tape.given l.tape).opened ≡ (g.T.Tape.given l.fn.tape).opened;
   goes : (g.T.Tape.given l.tape).reading ≡ Goes;

@@ -1,4 +1,4 @@
-use Rattle.judge_top.specs.Answers.{tape_run}
+use Rattle.proof_verdict.specs.Verdict.{tape_run}
 use Rattle.judge_top.proofs.Formulas.{told_known, too_many}
 use Rattle.judge_top.proofs.model.told_in.Goals as goal
 

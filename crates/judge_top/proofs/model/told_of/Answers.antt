@@ -2,8 +2,9 @@ use Rattle.std.proofs.Common.{◌∙◌, ℕ, List, Bool, sym, ap, subst}
 use Rattle.clause_base.specs.Formula.{Cnf}
 use Rattle.sat_text.specs.Values.{Values, refused_by}
 use Rattle.sat_text.proofs.published.ValueReading.{values_are}
-use Rattle.judge_top.specs.Answers.{tape_run, IsReadAs}
-use Rattle.judge_top.proofs.Given.{itself}
+use Rattle.proof_verdict.specs.Verdict.{tape_run}
+use Rattle.judge_top.specs.Answers.{IsReadAs}
+use Rattle.proof_verdict.proofs.published.Given.{itself}
 use Rattle.judge_top.proofs.model.told_of.Goals as goal
 
 pub told_values-requires-clause-long : goal.told_values-requires-clause-long

@@ -9,5 +9,5 @@ abbrev pub invariant-loop-effect : goal.invariant-loop-effect
 invariant-loop-effect l = record {
   before : l.before ≡ l.initial.before;
   after : l.after ≡ l.initial.after;
-  all : AllByRecursion (λ e. (k : ℕ) → is_in (slice_index_or l.sides.whole.now.uses.now e.literal []) k ≡ true → IsStepRefuted l.sides.whole.now l.act k) (take l.effect-index l.effect-items);
+  all : AllByRecursion (λ e. (k : ℕ) → is_in (slice_index_or l.step.sides.now.whole.now.uses.now e.literal []) k ≡ true → IsStepRefuted l.step.sides.now.whole.now l.step.act.now k) (take l.effect-index l.effect-items);
 }

@@ -7,5 +7,5 @@ abbrev pub invariant-loop-number : goal.invariant-loop-number
 invariant-loop-number l = record {
   before : l.before ≡ l.initial.before;
   after : l.after ≡ l.initial.after;
-  all : AllByRecursion (IsStepRefuted l.sides.whole.now l.act) (take l.number-index l.number-items);
+  all : AllByRecursion (IsStepRefuted l.step.sides.now.whole.now l.step.act.now) (take l.number-index l.number-items);
 }

@@ -8,5 +8,5 @@ use Rattle.never_check.proofs.forward.check_effects.Given as goal
 abbrev pub invariant-loop-effect : goal.invariant-loop-effect
 invariant-loop-effect l = record {
   kept : l.trail ≡ l.initial.trail;
-  all : AllByRecursion (λ e. (k : ℕ) → is_in (slice_index_or l.rules.uses.now (opposite e.literal) []) k ≡ true → AreCasesRefuted l.rules l.act k) (take l.effect-index l.effect-items);
+  all : AllByRecursion (λ e. (k : ℕ) → is_in (slice_index_or l.trial.rules.now.uses.now (opposite e.literal) []) k ≡ true → AreCasesRefuted l.trial.rules.now l.trial.act.now k) (take l.effect-index l.effect-items);
 }

@@ -1,21 +1,14 @@
-use Rattle.std.proofs.Common.{◌∙◌, ap, sym, subst}
-use Rattle.never_check.specs.Trail.{Reached}
-use Rattle.never_check.specs.Verdicts.{IsBase}
-use Rattle.never_check.specs.declared.rules.Rules.{Rules}
-use Rattle.never_check.proofs.Grown.{when_false}
-use Rattle.never_check.proofs.Least.{went_back}
-use Rattle.never_check.proofs.Forwarding.{begun_base}
+use Rattle.std.proofs.Common.{◌∙◌, ap, subst}
+use Rattle.gt_core.specs.Clauses.{KnownClauses}
+use Rattle.never_check.specs.WeightsVerdicts.{IsWeightsVerdict}
+use Rattle.never_check.proofs.Weighing.{summed_plain}
 use Rattle.never_check.proofs.weights.check_weights.Goals as goal
 
-pub goal_passes-requires-clause-base : goal.goal_passes-requires-clause-base
-goal_passes-requires-clause-base c =
-    let rules : Rules = record { known = c.args.known; clauses = record { ref_ptr = _; now = c.new-none.result }; uses = c.deref.result } in
-    let facts = c.in_ok-begin.ensures.facts ∙ ap (λ (r : Reached). r.facts) c.in_ok-trail.ensures ∙ c.facts-facts.ensures.facts ∙ sym c.requires.facts in
-    begun_base rules c.begin.new.trail facts (when_false c.in_ok-begin.field-0 _ c.if-branch.false c.in_ok-begin.ensures.told)
+pub check_plain-requires-clause-facts : goal.check_plain-requires-clause-facts
+check_plain-requires-clause-facts c = ap (λ (k : KnownClauses). k.facts) c.rules-plain.ensures.known ∙ c.requires.facts
 
-pub first_raising-requires-clause-base : goal.first_raising-requires-clause-base
-first_raising-requires-clause-base c =
-    let rules : Rules = record { known = c.args.known; clauses = record { ref_ptr = _; now = c.new-none.result }; uses = c.deref.result } in
-    let facts = c.in_ok-begin.ensures.facts ∙ ap (λ (r : Reached). r.facts) c.in_ok-trail.ensures ∙ c.facts-facts.ensures.facts ∙ sym c.requires.facts in
-    let base = begun_base rules c.begin.new.trail facts (when_false c.in_ok-begin.field-0 _ c.if-branch.false c.in_ok-begin.ensures.told) in
-    subst (λ (r : Reached). IsBase rules r) (sym (went_back c.begin.new.trail c.goal_passes.new.trail c.go_back.new.self c.len-from.result c.go_back.ensures c.in_ok-goal_passes.ensures.facts c.len-from.ensures.is c.in_ok-goal_passes.ensures.front)) base
+pub check_plain-requires-clause-weights : goal.check_plain-requires-clause-weights
+check_plain-requires-clause-weights c = summed_plain c.rules-plain.result c.args.known.now c.rules-plain.ensures c.args.weights.now c.args.task.now.facts c.requires.facts c.requires.over c.requires.total
+
+pub returns : goal.returns
+returns c = subst (λ (k : KnownClauses). IsWeightsVerdict c.args.task.now k.clauses c.args.weights.now c.in_ok-verdict.verdict) c.rules-plain.ensures.known c.in_ok-verdict.ensures

@@ -1,6 +1,8 @@
 use Rattle.std.proofs.Common.{arith, ◌∙◌, sym, subst}
 use Rattle.gt_core.specs.Task.{Action, action}
 use Rattle.never_defs.specs.Weights.{PassesWeights}
+use Rattle.never_check.specs.Trail.{Reached}
+use Rattle.never_check.specs.WeightsVerdicts.{IsWeighing}
 use Rattle.never_check.proofs.Grown.{when_true, when_false}
 use Rattle.never_check.proofs.Turns.{act_within, act_fits, acts_next, acts_all}
 use Rattle.never_check.proofs.weights.first_raising.Goals as goal
@@ -8,6 +10,9 @@ use Rattle.never_check.proofs.weights.first_raising.Goals as goal
 pub passes-requires-clause-fits : goal.passes-requires-clause-fits
 passes-requires-clause-fits c =
     act_fits c.args.task.now c.acts.result.now c.acts.ensures.acts c.loop-number.number (let t = c.loop-number-test.true in omega (arith, t)) c.requires.lawful _ c.act.result.now c.requires.facts c.act.ensures.act
+
+pub passes-requires-clause-weighing : goal.passes-requires-clause-weighing
+passes-requires-clause-weighing c = subst (λ (r : Reached). IsWeighing c.args.rules.now c.args.weights.now r) (sym c.loop-number.invariant.kept) c.requires.weighing
 
 pub returns-then-not-branch : goal.returns-then-not-branch
 returns-then-not-branch c =

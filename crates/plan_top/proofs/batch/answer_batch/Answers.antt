@@ -15,7 +15,7 @@ pub raced_all-requires-clause-few : goal.raced_all-requires-clause-few
 raced_all-requires-clause-few g c κs within =
     let left = runs_open c.args.domain.now c.args.problems.now c.in_ok-prepared.prepared.ended.items c.in_ok-prepared.prepared.runs.items c.in_ok-prepared.ensures.prepared in
     let most = left.2 in
-    let few = c.requires.few in
+    let few = c.requires.problems.1 in
     rw c.as_slice-runs.ensures.value (omega (arith, most, few))
 
 pub reports_of-requires-clause-sound : goal.reports_of-requires-clause-sound
@@ -25,7 +25,7 @@ reports_of-requires-clause-sound g c =
 pub joined-requires-clause-few : goal.joined-requires-clause-few
 joined-requires-clause-few g c =
     let count = (runs_open c.args.domain.now c.args.problems.now c.in_ok-prepared.prepared.ended.items c.in_ok-prepared.prepared.runs.items c.in_ok-prepared.ensures.prepared).1 in
-    let few = c.requires.few in
+    let few = c.requires.problems.1 in
     rw c.into_ended.ensures (omega (arith, count, few))
 
 pub joined-requires-clause-enough : goal.joined-requires-clause-enough

@@ -89,17 +89,8 @@ answer_batch-requires-clause-problems g c κs within =
     let batch = batch_of c.in-Batch.is c.requires.sized in
     let met = files_in c.in-Batch.is c.as_slice.result.now c.as_slice.ensures (λ (file : ℕ → File) (names : List (List ℕ)). AreTakenOrLong file 0 names taken.0 (files.domain ∷ files.problems.items)) taken.2 in
     let fit = files_fit taken.0 (g.S.Shelf.failed c.args.shelf.now) (g.S.Shelf.failed c.take_batch.new.shelf) c.in-Batch.settings c.in-Batch.turns (seen c.args.request.now) batch _ _ refl met in
-    rw c.as_slice-problems.ensures.value fit.0.1
-
-pub answer_batch-requires-clause-few : goal.answer_batch-requires-clause-few
-answer_batch-requires-clause-few g c κs within =
-    let files = c.in_ok-files-in-Batch.files in
-    let taken = c.in_ok-files-in-Batch.ensures.taken in
-    let batch = batch_of c.in-Batch.is c.requires.sized in
-    let met = files_in c.in-Batch.is c.as_slice.result.now c.as_slice.ensures (λ (file : ℕ → File) (names : List (List ℕ)). AreTakenOrLong file 0 names taken.0 (files.domain ∷ files.problems.items)) taken.2 in
-    let fit = files_fit taken.0 (g.S.Shelf.failed c.args.shelf.now) (g.S.Shelf.failed c.take_batch.new.shelf) c.in-Batch.settings c.in-Batch.turns (seen c.args.request.now) batch _ _ refl met in
     let few = fit.1 in
-    rw c.as_slice-problems.ensures.value (omega (arith, few))
+    rw c.as_slice-problems.ensures.value (fit.0.1, omega (arith, few))
 
 pub returns-in_ok-files-in-Batch-clause-cause : goal.returns-in_ok-files-in-Batch-clause-cause
 returns-in_ok-files-in-Batch-clause-cause g c took handed words asked =
@@ -122,28 +113,23 @@ returns-in-Gen-clause-cause g c took handed words asked =
 
 -- ---- all others
 
-pub returns-in_err-files-in_default : goal.returns-in_err-files-in_default
-returns-in_err-files-in_default g c =
+pub returns-in_err-files-in_default-clause-cause : goal.returns-in_err-files-in_default-clause-cause
+returns-in_err-files-in_default-clause-cause g c =
     let old = g.S.Shelf.failed c.args.shelf.now in
     let new = g.S.Shelf.failed c.take_all.new.shelf in
     let request = seen c.args.request.now in
     let has = has_files c.args.request.now (λ d ps s t is. let never : ⊥ = search (c.in_default.not-Batch) in never) (λ k n s w is. let never : ⊥ = search (c.in_default.not-Gen) in never) in
     let named = named_in request (names_of c.names_of.result) c.third_of.result c.names_of.ensures (c.third_of.ensures has) in
-    record {
-      cause = λ took handed words asked. EndsAs-handed _ (Comes took old new words)
-          (λ end h. of_one request asked (one_of request has) (stopped (named (λ (file : ℕ → File) (names : List (List ℕ)). StopsFrom old new file 0 names took end)
-          (subst (λ (t : List Heard). StopsFrom old new (file_in c.third_of.result) 0 (names_of c.names_of.result) t end) (handed_once (g.S.Shelf.heard c.args.shelf.now) _ h.0 took h.1 handed) h.2))))
-          c.in_err-files-in_default.field-0.0 c.from_residual-in_err-files-in_default.result c.from_residual-in_err-files-in_default.ensures.1 c.in_err-files-in_default.ensures.stops;
-      agrees = c.take_all.ensures.agrees;
-      told = c.take_all.ensures.told;
-      lacks = c.take_all.ensures.lacks;
-      noted = subst (λ (names : List (List ℕ)). NotesAmong names old new) c.names_of.ensures c.take_all.ensures.noted;
-      drives = omega arith;
-      idle = λ one. refl;
-    }
+    λ took handed words asked. EndsAs-handed _ (Comes took old new words)
+    (λ end h. of_one request asked (one_of request has) (stopped (named (λ (file : ℕ → File) (names : List (List ℕ)). StopsFrom old new file 0 names took end)
+    (subst (λ (t : List Heard). StopsFrom old new (file_in c.third_of.result) 0 (names_of c.names_of.result) t end) (handed_once (g.S.Shelf.heard c.args.shelf.now) _ h.0 took h.1 handed) h.2))))
+    c.in_err-files-in_default.field-0.0 c.from_residual-in_err-files-in_default.result c.from_residual-in_err-files-in_default.ensures.1 c.in_err-files-in_default.ensures.stops
 
-pub returns-in_ok-files-in_default : goal.returns-in_ok-files-in_default
-returns-in_ok-files-in_default g c =
+pub returns-in_err-files-in_default-clause-noted : goal.returns-in_err-files-in_default-clause-noted
+returns-in_err-files-in_default-clause-noted g c = subst (λ (names : List (List ℕ)). NotesAmong names (g.S.Shelf.failed c.args.shelf.now) (g.S.Shelf.failed c.take_all.new.shelf)) c.names_of.ensures c.take_all.ensures.noted
+
+pub returns-in_ok-files-in_default-clause-cause : goal.returns-in_ok-files-in_default-clause-cause
+returns-in_ok-files-in_default-clause-cause g c =
     let old = g.S.Shelf.failed c.args.shelf.now in
     let new = g.S.Shelf.failed c.take_all.new.shelf in
     let request = seen c.args.request.now in
@@ -151,15 +137,10 @@ returns-in_ok-files-in_default g c =
     let has = has_files c.args.request.now (λ d ps s t is. let never : ⊥ = search (c.in_default.not-Batch) in never) (λ k n s w is. let never : ⊥ = search (c.in_default.not-Gen) in never) in
     let named = named_in request (names_of c.names_of.result) c.third_of.result c.names_of.ensures (c.third_of.ensures has) in
     let taken = c.in_ok-files-in_default.ensures.taken in
-    record {
-      cause = λ took handed words asked. EndsAs-weaker _ _
-          (λ end h. of_one request asked (one_of request has) (taken_comes took _ _ request files (named (λ (file : ℕ → File) (names : List (List ℕ)). AreTaken file 0 names took files)
-          (subst (λ (t : List Heard). AreTaken (file_in c.third_of.result) 0 (names_of c.names_of.result) t files) (handed_once (g.S.Shelf.heard c.args.shelf.now) _ taken.0 took taken.1 handed) taken.2)) end h))
-          c.answer.result c.answer.ensures;
-      agrees = c.take_all.ensures.agrees;
-      told = c.take_all.ensures.told;
-      lacks = c.take_all.ensures.lacks;
-      noted = subst (λ (names : List (List ℕ)). NotesAmong names old new) c.names_of.ensures c.take_all.ensures.noted;
-      drives = omega arith;
-      idle = λ one. refl;
-    }
+    λ took handed words asked. EndsAs-weaker _ _
+    (λ end h. of_one request asked (one_of request has) (taken_comes took _ _ request files (named (λ (file : ℕ → File) (names : List (List ℕ)). AreTaken file 0 names took files)
+    (subst (λ (t : List Heard). AreTaken (file_in c.third_of.result) 0 (names_of c.names_of.result) t files) (handed_once (g.S.Shelf.heard c.args.shelf.now) _ taken.0 took taken.1 handed) taken.2)) end h))
+    c.answer.result c.answer.ensures
+
+pub returns-in_ok-files-in_default-clause-noted : goal.returns-in_ok-files-in_default-clause-noted
+returns-in_ok-files-in_default-clause-noted g c = subst (λ (names : List (List ℕ)). NotesAmong names (g.S.Shelf.failed c.args.shelf.now) (g.S.Shelf.failed c.take_all.new.shelf)) c.names_of.ensures c.take_all.ensures.noted

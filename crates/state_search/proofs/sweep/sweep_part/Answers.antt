@@ -17,7 +17,7 @@ returns-then-is_goal-clause-closing c =
     let inv = c.loop-place.invariant in
     let task = c.args.task.now in
     let source = unpacked task.facts c.args.before.now in
-    let acts = c.args.trie.now.acts in
+    let acts = c.args.ways.now.trie.acts in
     let tried = IsBefore acts c.loop-place.place in
     let more = IsBefore acts (c.loop-place.place + 1) in
     let one = before_more acts c.loop-place.place c.act.result c.act.ensures in
@@ -31,7 +31,7 @@ returns-then-is_goal-clause-breadth c =
     let inv = c.loop-place.invariant in
     let task = c.args.task.now in
     let source = unpacked task.facts c.args.before.now in
-    let acts = c.args.trie.now.acts in
+    let acts = c.args.ways.now.trie.acts in
     let tried = IsBefore acts c.loop-place.place in
     let more = IsBefore acts (c.loop-place.place + 1) in
     let one = before_more acts c.loop-place.place c.act.result c.act.ensures in
@@ -46,7 +46,7 @@ loop-place-preserved c =
     let inv = c.loop-place.invariant in
     let task = c.args.task.now in
     let source = unpacked task.facts c.args.before.now in
-    let acts = c.args.trie.now.acts in
+    let acts = c.args.ways.now.trie.acts in
     let tried = IsBefore acts c.loop-place.place in
     let more = IsBefore acts (c.loop-place.place + 1) in
     let one = before_more acts c.loop-place.place c.act.result c.act.ensures in
@@ -91,14 +91,14 @@ loop-place-preserved c =
 pub returns-clause-closing : goal.returns-clause-closing
 returns-clause-closing c =
     let inv = c.loop-place.invariant in
-    let acts = c.args.trie.now.acts in
+    let acts = c.args.ways.now.trie.acts in
     closing_skipped c.args.task.now c.loop-place.store c.args.number (IsBefore acts c.loop-place.place) inv.closing (IsBefore acts c.args.to) (unpacked c.args.task.now.facts c.args.before.now) inv.at
     (λ a b. inl (before_less acts c.args.to c.loop-place.place c.loop-place-test.false a b))
 
 pub returns-clause-breadth : goal.returns-clause-breadth
 returns-clause-breadth c =
     let inv = c.loop-place.invariant in
-    let acts = c.args.trie.now.acts in
+    let acts = c.args.ways.now.trie.acts in
     λ breadth. breadth_skipped c.args.task.now c.loop-place.store c.args.number (IsBefore acts c.loop-place.place) (unpacked c.args.task.now.facts c.args.before.now) (inv.breadth breadth) inv.at (IsBefore acts c.args.to)
     (λ a b. inl (before_less acts c.args.to c.loop-place.place c.loop-place-test.false a b))
 

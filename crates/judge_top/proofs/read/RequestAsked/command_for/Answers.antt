@@ -1,20 +1,14 @@
-use Rattle.std.proofs.Common.{sym, subst}
-use Rattle.std.proofs.lemmas.Result.{IfOk-weaker}
-use Rattle.clap.specs.Words.{App}
-use Rattle.requests.specs.Fit.{IsFit}
-use Rattle.requests.specs.Passed.{Passed}
-use Rattle.requests.specs.Same.{IsSame}
+use Rattle.std.proofs.Common.{codes}
+use Rattle.clap.specs.Words.{app_of}
+use Rattle.requests.specs.Passed.{HasNumber}
+use Rattle.requests.proofs.published.Made.{made}
 use Rattle.judge_top.specs.Command.{command_of, steps_list}
 use Rattle.judge_top.proofs.Fit.{as_list, fit, horizon_in}
+use Rattle.horizon_rates.specs.Limits.{last_horizon}
 use Rattle.judge_top.proofs.read.RequestAsked.command_for.Goals as goal
 
 pub returns : goal.returns
 returns c =
-    let by = c.steps_reader.result in
     let takes = c.steps_reader.ensures in
-    let name = c.args.name in
-    record {
-      fit = IfOk-weaker c.command_by.result _ _ (λ command is. subst IsFit (sym is) (fit by takes name)) c.command_by.ensures;
-      same = IfOk-weaker c.command_by.result _ _ (λ command is. subst (λ (a : App). IsSame a (command_of steps_list name)) (sym is) (as_list by takes name)) c.command_by.ensures;
-      values = IfOk-weaker c.command_by.result _ _ (λ command is rows passed. horizon_in by name rows (subst (λ (a : App). Passed a.top.rules rows) is passed)) c.command_by.ensures;
-    }
+    let k = made app_of c.command_by.result _ (command_of steps_list c.args.name) (HasNumber 0 last_horizon (codes "horizon")) c.command_by.ensures (fit _ takes c.args.name) (as_list _ takes c.args.name) (horizon_in _ c.args.name) in
+    record { fit = k.0; same = k.1; values = k.2 }

@@ -1,21 +1,13 @@
-use Rattle.std.proofs.Common.{sym, subst}
-use Rattle.std.proofs.lemmas.Result.{IfOk-weaker}
-use Rattle.clap.specs.Words.{App}
+use Rattle.clap.specs.Words.{app_of}
 use Rattle.requests.specs.Command.{command_of, lists}
-use Rattle.requests.specs.Fit.{IsFit}
-use Rattle.requests.specs.Passed.{Passed}
-use Rattle.requests.specs.Same.{IsSame}
+use Rattle.requests.specs.own.Ranges.{Has}
 use Rattle.requests.proofs.Fit.{fit, numbers_of}
 use Rattle.requests.proofs.SameReaders.{as_lists}
+use Rattle.requests.proofs.published.Made.{made}
 use Rattle.requests.proofs.read.RequestAsked.command_for.Goals as goal
 
 pub returns : goal.returns
 returns c =
-    let by = c.lists_of_words.result in
     let are = c.lists_of_words.ensures in
-    let name = c.args.name in
-    record {
-      fit = IfOk-weaker c.command_by.result _ _ (λ command is. subst IsFit (sym is) (fit by are name)) c.command_by.ensures;
-      same = IfOk-weaker c.command_by.result _ _ (λ command is. subst (λ (a : App). IsSame a (command_of lists name)) (sym is) (as_lists by are name)) c.command_by.ensures;
-      values = IfOk-weaker c.command_by.result _ _ (λ command is rows passed. numbers_of by name rows (subst (λ (a : App). Passed a.top.rules rows) is passed)) c.command_by.ensures;
-    }
+    let k = made app_of c.command_by.result _ (command_of lists c.args.name) (Has c.args.name) c.command_by.ensures (fit _ are c.args.name) (as_lists _ are c.args.name) (numbers_of _ c.args.name) in
+    record { fit = k.0; same = k.1; values = k.2 }

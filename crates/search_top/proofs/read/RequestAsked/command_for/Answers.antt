@@ -1,20 +1,12 @@
-use Rattle.std.proofs.Common.{sym, subst}
-use Rattle.std.proofs.lemmas.Result.{IfOk-weaker}
-use Rattle.clap.specs.Words.{App}
-use Rattle.requests.specs.Fit.{IsFit}
-use Rattle.requests.specs.Passed.{Passed}
-use Rattle.requests.specs.Same.{IsSame}
-use Rattle.search_top.specs.Command.{command_of, how_list}
+use Rattle.clap.specs.Words.{app_of}
+use Rattle.requests.proofs.published.Made.{made}
+use Rattle.search_top.specs.Command.{simple_command, Has}
 use Rattle.search_top.proofs.Fit.{as_list, fit, numbers_of}
 use Rattle.search_top.proofs.read.RequestAsked.command_for.Goals as goal
 
 pub returns : goal.returns
 returns c =
-    let by = c.how_reader.result in
-    let takes = c.how_reader.ensures in
     let name = c.args.name in
-    record {
-      fit = IfOk-weaker c.command_by.result _ _ (λ command is. subst IsFit (sym is) (fit by takes name)) c.command_by.ensures;
-      same = IfOk-weaker c.command_by.result _ _ (λ command is. subst (λ (a : App). IsSame a (command_of how_list name)) (sym is) (as_list by takes name)) c.command_by.ensures;
-      values = IfOk-weaker c.command_by.result _ _ (λ command is rows passed. numbers_of by name rows (subst (λ (a : App). Passed a.top.rules rows) is passed)) c.command_by.ensures;
-    }
+    let takes = c.list_reader.ensures in
+    let k = made app_of c.command_by.result _ (simple_command name) (Has name) c.command_by.ensures (fit name _ takes) (as_list name _ takes) (numbers_of _ name) in
+    record { fit = k.0; same = k.1; values = k.2 }

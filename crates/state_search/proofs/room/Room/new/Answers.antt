@@ -11,7 +11,7 @@ returns-clause-room c =
     let long = length-row c.args.task.now.facts c.in_ok-first.first.items first in
     record {
       facts = ap (λ s. s.facts) c.in_ok-store.ensures ∙ c.facts.ensures.facts;
-      trie = c.in_ok-new.ensures;
+      ways = c.in_ok-new.ensures;
       first = first;
       initial = ap (λ n. unpacked n c.in_ok-first.first.items) (sym facts) ∙ c.in_ok-first.ensures.state ∙ c.init.ensures;
       before = ap length (c.in_ok-from_slice.ensures.items ∙ c.deref.ensures.value) ∙ long;

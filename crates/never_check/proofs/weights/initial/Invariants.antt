@@ -1,8 +1,0 @@
-use Rattle.std.proofs.Common.{◌≡◌, take}
-use Rattle.gt_core.specs.Literal.{holds}
-use Rattle.gt_core.specs.Task.{initial_state}
-use Rattle.never_defs.specs.Sets.{weight_of}
-use Rattle.never_check.proofs.weights.initial.Given as goal
-
-abbrev pub invariant-loop-weight : goal.invariant-loop-weight
-invariant-loop-weight l = l.sum ≡ weight_of (holds (initial_state l.task)) (take l.weight-index l.weights)
