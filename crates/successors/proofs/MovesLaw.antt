@@ -1,12 +1,12 @@
 -- Copies of what actions need and do.
-use Rattle.std.proofs.Common.{arith, ◌≡◌, ◌==◌, ℕ, ◌+◌, ◌*◌, ◌/◌, ◌%◌, ◌<◌, ◌≤◌, List, [], ◌∷◌, ◌++◌, Bool, true, false, not, ◌&&◌, ◌||◌, length, drop, get_or, refl, sym, ap, subst, ◌∙◌, inl, inr, Some, if◌then◌else◌}
+use Rattle.std.proofs.Common.{arith, ◌≡◌, ◌==◌, ℕ, zero, suc, ◌+◌, ◌*◌, ◌/◌, ◌%◌, ◌<◌, ◌≤◌, List, [], ◌∷◌, ◌++◌, Bool, true, false, not, ◌&&◌, ◌||◌, length, drop, get_or, refl, sym, ap, subst, ◌∙◌, inl, inr, Some, if◌then◌else◌}
 use Rattle.std.specs.Prelude.{slice_get, slice_index_or}
 use Rattle.std.specs.List.{AllByRecursion, list_any}
 use Rattle.std.proofs.lemmas.Bool.{cases_lt}
 use Rattle.std.proofs.lemmas.List.{get_or_push, get_or_append_left, length_push, at_drop_more}
 use Rattle.bit_sets.specs.Rows.{row_has}
 use Rattle.gt_core.specs.Literal.{is_in, all_hold, state_of}
-use Rattle.gt_core.specs.Task.{Effect, Task, action, precondition}
+use Rattle.gt_core.specs.Task.{Effect, Action, Task, action, precondition}
 use Rattle.gt_core.specs.Lawful.{is_conditional, is_task}
 use Rattle.gt_core.specs.Active.{is_active}
 use Rattle.gt_core.proofs.published.Basics.{not_true, same_if, same_test, test_same, apart, each_from, each_at}

@@ -1,4 +1,4 @@
-use Rattle.std.proofs.Common.{arith, ◌/◌, ◌<◌, ◌∙◌, sym, subst}
+use Rattle.std.proofs.Common.{arith, ◌≡◌, ◌/◌, ◌<◌, ◌∙◌, sym, subst}
 use Rattle.std.specs.List.{AllByRecursion}
 use Rattle.successors.proofs.MovesLaw.{noted_more, noted_within}
 use Rattle.successors.proofs.moves.gather.Goals as goal

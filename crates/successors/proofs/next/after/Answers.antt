@@ -1,4 +1,4 @@
-use Rattle.std.proofs.Common.{arith, ◌∙◌, ap, sym}
+use Rattle.std.proofs.Common.{arith, ◌*◌, ◌+◌, ◌<◌, ◌||◌, ◌&&◌, ◌≡◌, ◌∙◌, List, ℕ, ap, sym}
 use Rattle.gt_core.specs.Task.{action}
 use Rattle.gt_core.proofs.published.Within.{action_effects_within}
 use Rattle.bit_sets.specs.Rows.{row_has}

@@ -1,4 +1,4 @@
-use Rattle.std.proofs.Common.{◌+◌, ◌&&◌, ◌∙◌, get_or, Bool, not, ap, sym, drop}
+use Rattle.std.proofs.Common.{◌+◌, ◌||◌, ◌&&◌, ◌∙◌, get_or, Bool, not, ap, sym, drop}
 use Rattle.std.proofs.lemmas.List.{at_drop_more}
 use Rattle.bit_sets.specs.Rows.{row_has}
 use Rattle.gt_core.specs.Literal.{is_in}

@@ -1,4 +1,4 @@
-use Rattle.std.proofs.Common.{arith, ◌≡◌, ◌∙◌, true, sym}
+use Rattle.std.proofs.Common.{arith, ℕ, ◌*◌, ◌<◌, ◌≡◌, ◌∙◌, true, sym}
 use Rattle.gt_core.specs.Literal.{all_hold, state_of}
 use Rattle.gt_core.specs.Execution.{Runs, next_values}
 use Rattle.state_store.specs.Packed.{unpacked, IsPacked}

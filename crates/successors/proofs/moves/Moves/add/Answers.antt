@@ -1,4 +1,4 @@
-use Rattle.std.proofs.Common.{◌∷◌, [], ◌++◌, ◌∙◌, List, ℕ, ap, subst}
+use Rattle.std.proofs.Common.{◌≡◌, ◌∷◌, [], ◌++◌, ◌∙◌, List, ℕ, ap, subst}
 use Rattle.gt_core.specs.Task.{Effect}
 use Rattle.successors.specs.Moves.{AreMade}
 use Rattle.successors.proofs.moves.Moves.add.Goals as goal
