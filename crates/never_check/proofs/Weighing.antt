@@ -14,8 +14,8 @@ use Rattle.never_defs.specs.After.{comes_perhaps, goes_surely}
 use Rattle.never_defs.specs.Weights.{PassesWeights, GoalPassesWeights}
 use Rattle.never_check.specs.Trail.{Reached}
 use Rattle.never_check.specs.Rules.{ArePlain}
-use Rattle.never_check.specs.Verdicts.{IsBase, IsLeast, AreRefuted}
-use Rattle.never_check.specs.WeightsVerdicts.{IsWeighing}
+use Rattle.never_check.specs.Verdicts.{IsLeast, AreRefuted}
+use Rattle.never_check.specs.WeightsVerdicts.{AreSummed}
 use Rattle.never_check.specs.declared.rules.Rules.{Rules}
 use Rattle.never_check.proofs.Least.{plain_refuted, plain_propagated, plain_least}
 use Rattle.never_check.proofs.Surely.{comes_less, goes_more}
@@ -92,12 +92,10 @@ module _ (rules : Rules) (none : rules.clauses.now ≡ []) (weights : List (ℕ 
     pub never_there : AreRefuted rules task.goal → GoalPassesWeights task rules.known.now.clauses weights
     never_there refuted = λ hope set p apart_set. absurd (plain_refuted rules none task.goal refuted set p apart_set)
 
--- weights over the facts of the known clauses, with a trail that these begin
-pub weighed_plain : (rules : Rules) (known : KnownClauses) → ArePlain known rules → (weights : List (ℕ × ℕ)) (trail : Reached) (facts : ℕ) → known.facts ≡ facts → AllByRecursion (λ w. w.0 < 2 * facts) weights
-    → sum_by (λ (w : ℕ × ℕ). w.1) weights ≤ 9223372036854775807 → IsBase rules trail → IsWeighing rules weights trail
-weighed_plain rules known plain weights trail facts same over total base = record {
-  rules = plain.rules;
-  none = plain.none;
-  weights = record { over = subst (λ (k : ℕ). AllByRecursion (λ w. w.0 < 2 * k) weights) (sym (ap (λ (k : KnownClauses). k.facts) plain.known ∙ same)) over; total = total };
-  base = base;
+-- weights over the facts of a task are over those of the rules
+pub summed_plain : (rules : Rules) (known : KnownClauses) → ArePlain known rules → (weights : List (ℕ × ℕ)) (facts : ℕ) → known.facts ≡ facts → AllByRecursion (λ w. w.0 < 2 * facts) weights
+    → sum_by (λ (w : ℕ × ℕ). w.1) weights ≤ 9223372036854775807 → AreSummed (2 * rules.known.now.facts) weights
+summed_plain rules known plain weights facts same over total = record {
+  over = subst (λ (k : ℕ). AllByRecursion (λ w. w.0 < 2 * k) weights) (sym (ap (λ (k : KnownClauses). k.facts) plain.known ∙ same)) over;
+  total = total;
 }

@@ -258,7 +258,28 @@ fn check_steps(
     Ok(found)
 }
 
-/// The check of clauses of which one is false in the initial state.
+/// The check of clauses of which one is false in the initial state, by rules of the known clauses alone.
+fn check_plain(alloc: Global, plain: &Rules, given: &Given) -> Result<BackwardVerdict, Memory>
+    requires given { AreGivenPlain plain.now given.now }
+    requires initial { AreTrue (initial_state given.now.task.now) given.now.clauses.now → ⊥ }
+    ensures { IfOk result (IsBackwardVerdict given.now.task.now plain.now.known.now.clauses given.now.clauses.now) }
+{
+    let Some(mut trail) = begun(alloc, plain)? else {
+        return Ok(BackwardVerdict::Accepted);
+    };
+    let from = trail.len();
+    let open = check_goal(alloc, plain, given, &mut trail)?;
+    if let Some(number) = open {
+        return Ok(BackwardVerdict::Goal(number));
+    }
+    trail.go_back(from);
+    match check_steps(alloc, plain, given, &mut trail)? {
+        None => Ok(BackwardVerdict::Accepted),
+        Some((clause, action)) => Ok(BackwardVerdict::Pair(clause, action)),
+    }
+}
+
+/// The same, where these rules are made here.
 fn check_kept(alloc: Global, given: &Given) -> Result<BackwardVerdict, Memory>
     requires given { AreGiven given.now }
     requires initial { AreTrue (initial_state given.now.task.now) given.now.clauses.now → ⊥ }
@@ -266,19 +287,8 @@ fn check_kept(alloc: Global, given: &Given) -> Result<BackwardVerdict, Memory>
 {
     let nothing = Nothing::new(alloc, given.task.facts())?;
     let plain = nothing.rules(given.known);
-    let Some(mut trail) = begun(alloc, &plain)? else {
-        return Ok(BackwardVerdict::Accepted);
-    };
-    let from = trail.len();
-    let open = check_goal(alloc, &plain, given, &mut trail)?;
-    if let Some(number) = open {
-        return Ok(BackwardVerdict::Goal(number));
-    }
-    trail.go_back(from);
-    match check_steps(alloc, &plain, given, &mut trail)? {
-        None => Ok(BackwardVerdict::Accepted),
-        Some((clause, action)) => Ok(BackwardVerdict::Pair(clause, action)),
-    }
+    let verdict = check_plain(alloc, &plain, given)?;
+    Ok(verdict)
 }
 
 /// The check of clauses as a backward set of a task, under its known clauses.

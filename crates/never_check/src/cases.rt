@@ -155,19 +155,20 @@ fn refute_way(
     ensures kept { OnOk result (trail.new ≡ trail.old) }
     ensures told { IfOk result (Decides (IsWayRefuted at.now held.now trail.old (record { literals = literals.now; clauses = clauses.now }))) }
 {
+    let pair = at.pair;
     let len = trail.len();
     if assume(trail, literals)? {
         trail.go_back(len);
         return Ok(true);
     }
     if clauses.len() == 0 {
-        let refuted = refute_from(at.pair, at.place + 1, held, trail)?;
+        let refuted = refute_from(pair, at.place + 1, held, trail)?;
         trail.go_back(len);
         return Ok(refuted);
     }
-    let more = joined(held.more, clauses, at.pair.alloc)?;
+    let more = joined(held.more, clauses, pair.alloc)?;
     let refuted = refute_from(
-        at.pair,
+        pair,
         at.place + 1,
         &Held {
             more: &more,

@@ -1,12 +1,12 @@
 //! The check of weights.
 
-ghost use Rattle.std.specs.Prelude.{◌≡◌, ℕ, ◌*◌, ◌<◌, ◌≤◌, true, length, take, sum_by, if◌then◌else◌, IfOk, OnOk, MatchOption};
+ghost use Rattle.std.specs.Prelude.{◌≡◌, ℕ, ◌*◌, ◌<◌, ◌≤◌, [], true, length, take, sum_by, if◌then◌else◌, IfOk, OnOk, MatchOption};
 ghost use Rattle.std.specs.List.{AllByRecursion};
 ghost use Rattle.gt_core.specs.{Literal.is_in, Clauses.IsKnownClauses, Lawful.is_task, Task.initial_state, Task.action};
 ghost use Rattle.implied_literals.specs.Tested.{ActionFits};
 ghost use Rattle.never_defs.specs.{Sets.weight_of, Sets.weight_in, After.comes_perhaps, After.goes_surely};
 ghost use Rattle.never_defs.specs.{Weights.PassesWeights, Weights.GoalPassesWeights};
-ghost use Rattle.never_check.specs.{Verdicts.Decides, WeightsVerdicts.AreSummed, WeightsVerdicts.IsWeighing, WeightsVerdicts.IsWeightsVerdict};
+ghost use Rattle.never_check.specs.{Rules.AreRules, Verdicts.Decides, WeightsVerdicts.AreSummed, WeightsVerdicts.IsWeighing, WeightsVerdicts.IsWeightsVerdict};
 
 use crate::after::{comes_perhaps, goes_surely};
 use crate::begin::begun;
@@ -61,13 +61,13 @@ fn compared(task: &Task, trail: &Trail, weights: &[(u32, u64)]) -> (u64, u64)
     ensures initial { result.0 ≡ weight_in (initial_state task.now) weights.now }
     ensures reached { result.1 ≡ weight_of (is_in trail.now.literals) weights.now }
 {
-    let mut initial = 0;
+    let mut first = 0;
     let mut reached = 0;
     for weight in weights {
-        initial += counted(task.holds(task.init(), weight.0), weight.1);
+        first += counted(task.holds(task.init(), weight.0), weight.1);
         reached += counted(trail.has(weight.0), weight.1);
     }
-    (initial, reached)
+    (first, reached)
 }
 
 /// Whether an action passes. The trail is as it was.
@@ -87,9 +87,9 @@ fn passes(
         trail.go_back(from);
         return Ok(true);
     }
-    let (coming, going) = moved(trail, act, weights);
+    let sums = moved(trail, act, weights);
     trail.go_back(from);
-    Ok(coming <= going)
+    Ok(sums.0 <= sums.1)
 }
 
 /// The first action that does not pass.
@@ -134,8 +134,36 @@ fn goal_passes(
     if refutes(rules, task.goal(), trail)? {
         return Ok(true);
     }
-    let (initial, reached) = compared(task, trail, weights);
-    Ok(initial < reached)
+    let sums = compared(task, trail, weights);
+    Ok(sums.0 < sums.1)
+}
+
+/// The check of weights by rules of the known clauses alone.
+fn check_plain(
+    alloc: Global,
+    plain: &Rules,
+    task: &Task,
+    weights: &[(u32, u64)],
+) -> Result<WeightsVerdict, Memory>
+    requires rules { AreRules plain.now }
+    requires none { plain.now.clauses.now ≡ [] }
+    requires lawful { is_task task.now ≡ true }
+    requires facts { plain.now.known.now.facts ≡ task.now.facts }
+    requires weights { AreSummed (2 * plain.now.known.now.facts) weights.now }
+    ensures { IfOk result (IsWeightsVerdict task.now plain.now.known.now.clauses weights.now) }
+{
+    let Some(mut trail) = begun(alloc, plain)? else {
+        return Ok(WeightsVerdict::Accepted);
+    };
+    let from = trail.len();
+    if !goal_passes(plain, task, weights, &mut trail)? {
+        return Ok(WeightsVerdict::Goal);
+    }
+    trail.go_back(from);
+    match first_raising(plain, task, weights, &mut trail)? {
+        None => Ok(WeightsVerdict::Accepted),
+        Some(number) => Ok(WeightsVerdict::Action(number)),
+    }
 }
 
 /// The check of weights as what no action of a task raises, under its known clauses.
@@ -153,17 +181,7 @@ pub fn check_weights(
     ensures { IfOk result (λ verdict. IsWeightsVerdict task.now known.now.clauses weights.now verdict) }
 {
     let nothing = Nothing::new(alloc, task.facts())?;
-    let rules = nothing.rules(known);
-    let Some(mut trail) = begun(alloc, &rules)? else {
-        return Ok(WeightsVerdict::Accepted);
-    };
-    let from = trail.len();
-    if !goal_passes(&rules, task, weights, &mut trail)? {
-        return Ok(WeightsVerdict::Goal);
-    }
-    trail.go_back(from);
-    match first_raising(&rules, task, weights, &mut trail)? {
-        None => Ok(WeightsVerdict::Accepted),
-        Some(number) => Ok(WeightsVerdict::Action(number)),
-    }
+    let plain = nothing.rules(known);
+    let verdict = check_plain(alloc, &plain, task, weights)?;
+    Ok(verdict)
 }

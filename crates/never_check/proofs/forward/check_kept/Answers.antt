@@ -9,15 +9,15 @@ use Rattle.never_check.proofs.forward.check_kept.Goals as goal
 pub returns-in_default : goal.returns-in_default
 returns-in_default c =
     let rules : Rules = record { known = c.args.given.now.known; clauses = c.args.given.now.clauses; uses = c.deref.result } in
-    all_passes c.args.given.now.task.now rules (none_at _ c.in_ok-begun.field-0 c.in_default.is c.in_ok-begun.ensures) c.requires.initial
+    all_passes c.args.given.now.task.now rules (none_at _ _ c.in_default.is c.in_ok-trail.ensures) c.requires.initial
 
 pub check_goal-requires-clause-base : goal.check_goal-requires-clause-base
-check_goal-requires-clause-base c = some_at _ _ c.in_ok-begun.field-0 c.in-Some.trail c.in-Some.is c.in_ok-begun.ensures
+check_goal-requires-clause-base c = some_at _ _ _ c.in-Some.trail c.in-Some.is c.in_ok-trail.ensures
 
 pub check_actions-requires-clause-base : goal.check_actions-requires-clause-base
 check_actions-requires-clause-base c =
     let rules : Rules = record { known = c.args.given.now.known; clauses = c.args.given.now.clauses; uses = c.deref.result } in
-    subst (λ (r : Reached). IsBase rules r) (sym c.in_ok-check_goal.ensures.kept) (some_at _ _ c.in_ok-begun.field-0 c.in-Some.trail c.in-Some.is c.in_ok-begun.ensures)
+    subst (λ (r : Reached). IsBase rules r) (sym c.in_ok-check_goal.ensures.kept) (some_at _ _ _ c.in-Some.trail c.in-Some.is c.in_ok-trail.ensures)
 
 pub returns-in-None : goal.returns-in-None
 returns-in-None c =

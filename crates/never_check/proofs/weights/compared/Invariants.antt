@@ -6,6 +6,6 @@ use Rattle.never_check.proofs.weights.compared.Given as goal
 
 abbrev pub invariant-loop-weight : goal.invariant-loop-weight
 invariant-loop-weight l = record {
-  initial : l.initial ≡ weight_of (holds (initial_state l.task)) (take l.weight-index l.weights);
+  first : l.first ≡ weight_of (holds (initial_state l.task)) (take l.weight-index l.weights);
   reached : l.reached ≡ weight_of (is_in l.trail.literals) (take l.weight-index l.weights);
 }

@@ -12,8 +12,8 @@ returns-then-branch-clause-told c =
     let told = begun_told rules x.precondition c.pre.result.now c.in_ok-refutes.field-0 c.args.trail.now c.refutes.new.trail c.requires.weighing.base c.in_ok-refutes.ensures.facts c.pre.ensures c.in_ok-refutes.ensures.told in
     never_able rules c.requires.weighing.none c.args.weights.now x (when_true c.in_ok-refutes.field-0 _ c.if-branch.true told)
 
-pub moved-requires-clause-weights : goal.moved-requires-clause-weights
-moved-requires-clause-weights c = subst (λ (k : ℕ). AreSummed (2 * k) c.args.weights.now) (sym (c.in_ok-refutes.ensures.facts ∙ c.requires.weighing.base.facts)) c.requires.weighing.weights
+pub moved-sums-requires-clause-weights : goal.moved-sums-requires-clause-weights
+moved-sums-requires-clause-weights c = subst (λ (k : ℕ). AreSummed (2 * k) c.args.weights.now) (sym (c.in_ok-refutes.ensures.facts ∙ c.requires.weighing.base.facts)) c.requires.weighing.weights
 
 pub returns-clause-told : goal.returns-clause-told
 returns-clause-told c =
@@ -22,6 +22,6 @@ returns-clause-told c =
     let told = begun_told rules x.precondition c.pre.result.now c.in_ok-refutes.field-0 c.args.trail.now c.refutes.new.trail c.requires.weighing.base c.in_ok-refutes.ensures.facts c.pre.ensures c.in_ok-refutes.ensures.told in
     let least = when_false c.in_ok-refutes.field-0 _ c.if-branch.false told in
     let weights = c.args.weights.now in
-    le_told c.moved.result.0 c.moved.result.1
-    (λ le. lasts rules c.requires.weighing.none weights x c.refutes.new.trail least (rw (sym c.moved.ensures.coming, sym c.moved.ensures.going) le))
-    (λ nay. rises rules c.requires.weighing.none weights x c.refutes.new.trail least (λ le. nay (rw (c.moved.ensures.coming, c.moved.ensures.going) le))) _ refl
+    le_told c.moved-sums.result.0 c.moved-sums.result.1
+    (λ le. lasts rules c.requires.weighing.none weights x c.refutes.new.trail least (rw (sym c.moved-sums.ensures.coming, sym c.moved-sums.ensures.going) le))
+    (λ nay. rises rules c.requires.weighing.none weights x c.refutes.new.trail least (λ le. nay (rw (c.moved-sums.ensures.coming, c.moved-sums.ensures.going) le))) _ refl
