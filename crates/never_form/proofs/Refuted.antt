@@ -1,8 +1,7 @@
 -- Where nothing satisfies the formula of clauses that hold at first, no actions lead to the goal. Where there are no facts the law of the
 -- formula says nothing; then a run to the goal would be the empty one, and the formula would have a satisfying assignment.
-use Rattle.std.proofs.Common.{arith, ◌≡◌, ◌==◌, ◌∙◌, ℕ, zero, suc, ◌+◌, ◌-◌, ◌*◌, ◌/◌, ◌%◌, ◌<◌, ◌≤◌, List, [], ◌∷◌, ◌++◌, drop, length, Bool, true, false, ◌||◌, not, refl, sym, ap, subst, nat_lt, if◌then◌else◌, inl, inr}
-use Rattle.std.specs.Prelude.{All, cond}
-use Rattle.std.specs.List.{AllByRecursion, list_any}
+use Rattle.std.proofs.Common.{arith, ◌≡◌, ◌==◌, ◌∙◌, ℕ, zero, suc, ◌*◌, ◌/◌, ◌%◌, ◌<◌, List, [], ◌∷◌, ◌++◌, drop, Bool, true, false, ◌||◌, not, refl, sym, ap, subst, nat_lt, if◌then◌else◌}
+use Rattle.std.specs.List.{AllByRecursion}
 use Rattle.std.proofs.lemmas.Bool.Decides.{nat_tests}
 use Rattle.std.proofs.lemmas.List.Elements.{All-head, All-tail}
 use Rattle.clause_base.specs.Clause.{HasVariablesBelow, clause_value}
@@ -10,7 +9,7 @@ use Rattle.clause_base.specs.Formula.{Cnf, IsUnsatisfiable, Satisfies}
 use Rattle.gt_core.specs.Literal.{holds}
 use Rattle.gt_core.specs.Task.{Task, initial_state}
 use Rattle.gt_core.specs.Execution.{IsGoal}
-use Rattle.gt_core.specs.Laws.{HasNoRun, IsRunToGoal}
+use Rattle.gt_core.specs.Laws.{HasNoRun}
 use Rattle.gt_core.proofs.published.Basics.{each_from}
 use Rattle.gt_core.proofs.published.Literals.{holds_add}
 use Rattle.formula_defs.specs.Layout.{Layout, variables}
@@ -22,12 +21,12 @@ use Rattle.formula_defs.proofs.published.InRange.{IsInRange}
 use Rattle.formula_defs.proofs.published.SizeLaw.{single_clause}
 use Rattle.formula_defs.proofs.published.Within.{step_within, known_within}
 use Rattle.step_laws.proofs.published.Ranges.{in_range_of}
-use Rattle.step_laws.specs.Form.{OrderedTask, IsOrderedTask, IsPlanOf, places_of}
+use Rattle.step_laws.specs.Form.{OrderedTask, IsOrderedTask, places_of}
 use Rattle.step_laws.specs.Never.{AreOver, never_formula, NeverIsNoPlan}
 use Rattle.step_laws.specs.own.Laws.{PlanIsSatisfying, SequenceIsPlan}
 use Rattle.never_defs.specs.Sets.{AreTrue}
 use Rattle.never_form.specs.own.Parts.{ends, own_parts}
-use Rattle.never_form.proofs.Same.{step_part, rest_is, clauses_same}
+use Rattle.never_form.proofs.Same.{rest_is, clauses_same}
 
 over_by_half : (facts : ℕ) (clauses : List (List ℕ)) → AllByRecursion (AllByRecursion (λ l. l < 2 * facts)) clauses → AreOver facts clauses
 over_by_half facts [] h = tt

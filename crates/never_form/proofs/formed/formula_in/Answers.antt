@@ -1,4 +1,4 @@
-use Rattle.std.proofs.Common.{arith, ◌≡◌, ◌∙◌, length, ap}
+use Rattle.std.proofs.Common.{arith, ◌∙◌, length, ap}
 use Rattle.formula_defs.specs.Coded.{formula_of}
 use Rattle.step_laws.specs.Form.{places_of}
 use Rattle.never_form.proofs.Forms.{stops_so, size_of_task, formula_of_task}
