@@ -17,8 +17,9 @@ use Rattle.formula_defs.proofs.published.SizeLaw.{size_law, chains_within_size}
 use Rattle.formula_defs.proofs.published.ShiftLaw.{known_moved}
 use Rattle.formula_defs.proofs.published.FewLaw.{step_few, time_few}
 use Rattle.step_laws.proofs.published.Ranges.{in_range_of}
-use Rattle.step_laws.specs.Form.{places_of}
+use Rattle.step_laws.specs.Form.{OrderedTask, IsOrderedTask, places_of}
 use Rattle.step_encoding.specs.Limits.{most_literals}
+use Rattle.step_encoding.specs.Numbers.{literals_of}
 use Rattle.never_form.specs.Formed.{needed, never_size}
 use Rattle.never_form.specs.own.Parts.{ends, HasNumbers}
 use Rattle.never_form.specs.own.One.{IsOne}
@@ -99,3 +100,10 @@ numbers task one clauses is fits over =
       rest = omega (arith, need, small, rest, left, literals);
       ends = omega (arith, bf, small, hopeless);
     }
+
+-- the goal has no more literals than the formula of horizon 1
+pub goal_few : (task : Task) (form : OrderedTask) → form.task ≡ task → IsOrderedTask form → length task.goal ≤ literals_of (formula_of task form.known.clauses (places_of form) 1)
+goal_few task form same is =
+    let range : IsInRange task form.known.clauses (places_of form) = subst (λ (t : Task). IsInRange t form.known.clauses (places_of form)) same (in_range_of form is) in
+    let size = size_law task form.known.clauses (places_of form) 1 range in
+    omega (arith, size)

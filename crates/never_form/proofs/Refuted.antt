@@ -126,3 +126,14 @@ module _ (form : OrderedTask) (is : IsOrderedTask form) (clauses : List (List �
       by : (n : ℕ) → form.task.facts ≡ n → HasNoRun form.task
       by zero e = without_facts satisfying sequence e
       by (suc n) e = λ ks run. law form is (omega (arith, e)) clauses (over_by_half form.task.facts clauses over) at_first none ks run.runs run.reaches
+
+-- the same of a task that a form has, and of a formula that is made
+pub no_run_of :
+    (task : Task) (form : OrderedTask) (clauses : List (List ℕ)) (formula : Cnf) → form.task ≡ task → IsOrderedTask form
+    → AllByRecursion (AllByRecursion (λ l. l < 2 * task.facts)) clauses → formula ≡ never_formula task form.known.clauses (places_of form) clauses
+    → NeverIsNoPlan → PlanIsSatisfying → SequenceIsPlan → IsUnsatisfiable formula.clauses → AreTrue (initial_state task) clauses → HasNoRun task
+no_run_of task form clauses formula same is over made law satisfying sequence none first =
+    let back : formula ≡ never_formula form.task form.known.clauses (places_of form) clauses = made ∙ ap (λ (t : Task). never_formula t form.known.clauses (places_of form) clauses) (sym same) in
+    subst HasNoRun same
+    (no_run form is clauses (subst (λ (t : Task). AllByRecursion (AllByRecursion (λ l. l < 2 * t.facts)) clauses) (sym same) over) (subst (λ (f : Cnf). IsUnsatisfiable f.clauses) back none)
+    (subst (λ (t : Task). AreTrue (initial_state t) clauses) (sym same) first) law satisfying sequence)
