@@ -16,25 +16,34 @@ run_driver() {
     find_places
     take_programs "$tool"
     find_cache_of_python
-    exec python3 -I -S "${cache[@]}" "$root/launch/solve" "$tool" "$root" "planner=$planner" "judge=$judge" "${others[@]}" -- "$@"
+    exec python3 -I -S "${cache[@]}" "$root/launch/solve/__main__.py" "$tool" "$root" "planner=$planner" "judge=$judge" "${others[@]}" -- "$@"
 }
 
 # take_programs TOOL: sets planner and judge to programs, or to nothing where there is none, and others to a line WORD=PROGRAM for each word
 # of a program that may be there. ./solve needs the planner, ./plan-by the judge; ./never-by needs never, and says itself where there is none.
 take_programs() {
-    local word wanted=plan_prog
+    local word named wanted=plan_prog
+    local -A found=()
     [ "$1" != plan-by ] || wanted=judge_prog
     [ "$1" != never-by ] || wanted=
-    planner=${SOLVE_PLANNER-$(program_of plan_prog "$wanted")} || exit
-    judge=${SOLVE_JUDGE-$(program_of judge_prog "$wanted")} || exit
-    others=("search=${SOLVE_SEARCH-$(program_for search)}")
-    for word in never never-search system never-formula; do
-        others+=("$word=${SOLVE_NEVER-$(program_for "$word")}")
+    [ -n "${SOLVE_PLANNER+named}" ] || take_program plan_prog "$wanted" || exit
+    [ -n "${SOLVE_JUDGE+named}" ] || take_program judge_prog "$wanted" || exit
+    planner=${SOLVE_PLANNER-${found[plan_prog]}} judge=${SOLVE_JUDGE-${found[judge_prog]}} others=()
+    for word in search never never-search system never-formula; do
+        named=SOLVE_NEVER
+        [ "$word" != search ] || named=SOLVE_SEARCH
+        if [ -n "${!named+named}" ]; then
+            others+=("$word=${!named}")
+        elif is_command "$word" && [[ $by == *_prog ]]; then
+            [ -n "${found[$by]+seen}" ] || take_program "$by" ''
+            others+=("$word=${found[$by]}")
+        fi
     done
 }
 
-# program_of NAME WANTED: its path; it is built where it is the wanted one and nothing else is there.
-program_of() {
+# take_program NAME WANTED: sets found[NAME] to its path, or to nothing; it is built where it is the wanted one and nothing else is there.
+take_program() {
+    found[$1]=
     is_there "$1" || return 0
     if [ "$1" = "$2" ]; then
         find_or_build "$1" || return
@@ -42,12 +51,7 @@ program_of() {
     else
         find_program "$1" || return 0
     fi
-    echo "$program"
-}
-
-# program_for COMMAND: the path of the program that answers a command, where there is one.
-program_for() {
-    is_command "$1" && [[ $by == *_prog ]] && find_program "$by" && echo "$program"
+    found[$1]=$program
 }
 
 # find_cache_of_python: where Python keeps what it has compiled: in a place of this user, or nowhere.

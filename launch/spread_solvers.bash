@@ -55,9 +55,10 @@ write_formula() {
 }
 
 # search_within: runs the solver, and the judge behind it, in a group of their own, and ends them where the horizon is
-# settled, the time is over or the driver is gone. Sets ended to the solver's status, or to nothing.
+# settled, the time is over or the driver is gone, and a solver that goes on for three seconds after its proof was judged. Sets ended
+# to the solver's status, or to nothing.
 search_within() {
-    local begun=$SECONDS
+    local begun=$SECONDS late=0
     set -m
     (search) >/dev/null 2>&1 </dev/null 9>&- &
     running=$!
@@ -65,7 +66,8 @@ search_within() {
     group=$running
     while kill -0 "$running" 2>/dev/null; do
         [ $((SECONDS - begun)) -lt $((minutes * 60)) ] && ! has_result "$folder" "$n" && ! is_needless "$folder" "$n" &&
-            ! is_orphan || break
+            ! is_orphan && [ "$late" -lt 15 ] || break
+        [ ! -s "$work/judge" ] || late=$((late + 1))
         nap 0.2
     done
     { kill -KILL -- "-$group"; wait "$running"; } 2>/dev/null
@@ -74,14 +76,24 @@ search_within() {
     seconds=$((SECONDS - begun)) megabytes=0
 }
 
-# search: leaves in the work folder `ended`, the solver's status, and what it was: `out`, or `judge` with `judged` and the proof.
+# search: within the memory, and files of a quarter of the disk's room. Leaves in the work folder `ended`, the solver's status, and what
+# it was: `out`, or `judge` with `judged` and the proof.
 search() {
-    local status
+    local status free
+    end_orphans "$$" &
     ulimit -v "$((memory * 1024 * 95 / 100))"
+    free=$(df -Pk -- "$work" 2>/dev/null | awk 'NR == 2 { print $4 }')
+    [ -z "$free" ] || ulimit -f "$((free / 4))"
     solve "$work/cnf" >(judge_and_keep) >"$work/out"
     status=$?
     while [ "$status" = 20 ] && [ ! -s "$work/judge" ]; do nap 0.02; done
     echo "$status" >"$work/ended.part" && mv -f -- "$work/ended.part" "$work/ended"
+}
+
+# end_orphans JOB: ends this group once the job is gone: one that was killed could not do so itself.
+end_orphans() {
+    while kill -0 "$1" 2>/dev/null; do nap 0.5; done
+    kill -KILL 0
 }
 
 # judge_and_keep: the proof that comes in, judged while it is written, and kept.

@@ -149,7 +149,7 @@ class Costs:
         if tree.items is None or id(tree) in self.gone:
             return
         if tree.head() in CHANGES | COMPARISONS | set(self.functions):
-            raise OtherForm(file, tree, "numbers do more here than count costs")
+            raise OtherForm(file, tree, "numbers do more here than count costs: amounts can be written as objects, and what comes after each as facts")
         if tree.head() == "=" and any(it.word is None or NUMBER.match(it.word) for it in tree.items[1:]):
             raise OtherForm(file, tree, "numbers are compared here")
         for it in tree.items:

@@ -11,18 +11,23 @@ from messages.text import as_bytes, path_shown, say
 
 REFUSED = re.compile(r"; refused (\w+) (\w+) ([0-9]+)\Z")
 UNREAD = re.compile(r"; read fault (\w+)\Z")
+KIND = "; refused kind certificate"
 FILE_LIMIT = re.compile(r"; limit file (\w+)\Z")
 LIMIT = re.compile(r"; limit (tuples|facts|actions|effects) ([0-9]+)\Z")
 LINE = re.compile(r"; limit line ([0-9]+)\Z")
 LITERALS = re.compile(r"; limit literals ([0-9]+) horizon ([0-9]+)\Z")
-FILE_BYTES = {"proof": 16777216}
+FILE_BYTES = {"proof": 16777216, "certificate": 16777216}
+LONG_PROOF = "the proof has more than the 16777216 bytes that a line may have: is it a proof in text (CaDiCaL writes one with --no-binary)?"
 LINES = {
-    "judge": "the proof has more than the 16777216 bytes that a line may have: is it a proof in text (CaDiCaL writes one with --no-binary)?",
+    "judge": LONG_PROOF,
+    "never-judge": LONG_PROOF,
     "model": "the model has more than the 268435456 bytes that a line may have: is it what a solver printed?",
 }
-PROOFS = {"judge": "LRAT", "never": "certificate"}
-LITERALS_OF = {"formula": 16000000, "judge": 16000000, "model": 16000000}
-THIRD = {"check": (2, "plan"), "verify": (2, "proof"), "judge": (3, "proof"), "model": (3, "model"), "never": (2, "proof")}
+PROOFS = {"judge": "LRAT", "never": "certificate", "never-judge": "LRAT"}
+LITERALS_OF = {"formula": 16000000, "judge": 16000000, "model": 16000000, "never-formula": 16000000, "never-judge": 16000000}
+# The files behind the task, each with its place among the words and its names in a report.
+MORE = {"check": {"plan": 2}, "verify": {"proof": 2}, "judge": {"proof": 3}, "model": {"model": 3}, "never": {"proof": 2},
+        "never-formula": {"certificate": 2, "proof": 2}, "never-judge": {"certificate": 2, "proof": 3}}
 BY_HORIZON = ("plan", "plan-all", "batch", "gen")
 ADVICE = {
     "domain": "comments and blanks count too, and objects that no action needs can go",
@@ -116,6 +121,9 @@ def tell_line(line, paths, command, called=None):
     found = REFUSED.match(line)
     if found:
         return tell_fault(Files(paths, called), found[1], found[2], int(found[3]), PROOFS.get(command, "proof"))
+    if line == KIND:
+        tell_at(paths.get("certificate", ""), "kind: only a certificate that begins with the line `clauses forward` has a formula")
+        return True
     found = UNREAD.match(line)
     if found:
         tell_unread(paths.get(found[1], ""), found[1])
@@ -195,9 +203,7 @@ class Call:
     def paths(self):
         """The files of the call by the names that reports have for them."""
         paths = dict(zip(("domain", "problem"), self.files))
-        place, name = THIRD.get(self.command, (None, None))
-        if name and len(self.files) > place:
-            paths[name] = self.files[place]
+        paths.update((name, self.files[place]) for name, place in MORE.get(self.command, {}).items() if len(self.files) > place)
         return paths
 
     def called(self):
@@ -238,11 +244,11 @@ class Call:
     def tell_run(self):
         """Tells what the run itself has printed, by the same run, where that is short."""
         paths = self.paths()
-        name = THIRD.get(self.command, (None, None))[1]
-        if name and name in paths and not can_be_read(paths[name]):
-            if self.status == 5:
-                tell_unread(paths[name], name)
-            return
+        for name in MORE.get(self.command, {}):
+            if name in paths and not can_be_read(paths[name]):
+                if self.status == 5:
+                    tell_unread(paths[name], name)
+                return
         answer = self.planner.ask(30, self.command, *self.words) if self.seconds < 20 else None
         if answer and answer[1] == self.status:
             tell_line(answer[0], paths, self.command, self.called())

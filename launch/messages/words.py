@@ -7,7 +7,7 @@ from messages.text import nearest
 
 HELP = pathlib.Path(__file__).resolve().parent.parent / "help"
 SPAN = re.compile(r"([0-9]+) to ([0-9]+)\Z")
-PLACES = {"HORIZON": "0 to 255", "NUMBER": "1 to 64", "KIND": "corridor|gripper"}
+PLACES = {"NUMBER": "1 to 64", "KIND": "corridor|gripper"}
 
 
 class Option:
@@ -40,6 +40,9 @@ def told(values):
 def all_options():
     """The options that several commands have, by their names."""
     return {it.name: it for it in map(Option, filter(None, (HELP / "options.txt").read_text().splitlines()))}
+
+
+PLACES["HORIZON"] = all_options()["--max-horizon"].values
 
 
 class Command:

@@ -11,8 +11,9 @@ Effect = collections.namedtuple("Effect", "variables condition atom adds")
 Action = collections.namedtuple("Action", "name variables condition effects")
 
 TRUE = ("and",)
-LEFT_OUT = {":derived": "derived predicates", ":axiom": "derived predicates", ":durative-action": "actions that take time",
-            ":constraints": "constraints", ":process": "processes", ":event": "events"}
+FACTS, ACTIONS = "actions can add and delete these facts", "an :action without times says what comes before and after"
+LEFT_OUT = {":derived": ("derived predicates", FACTS), ":axiom": ("derived predicates", FACTS), ":durative-action": ("actions that take time", ACTIONS),
+            ":constraints": ("constraints", "without them a plan may break them"), ":process": ("processes", ACTIONS), ":event": ("events", ACTIONS)}
 
 
 class Refused(Exception):
@@ -45,7 +46,7 @@ class Task:
         for file in (domain, problem):
             for section in file.tree.items[2:]:
                 if section.head() in LEFT_OUT:
-                    raise Refused(file, section, f"{LEFT_OUT[section.head()]} are not rewritten")
+                    raise Refused(file, section, "{} are not rewritten: {}".format(*LEFT_OUT[section.head()]))
         self.read_types()
         self.constants = self.read_objects(domain, ":constants", {})
         self.objects = self.read_objects(problem, ":objects", self.constants)

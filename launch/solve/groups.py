@@ -155,7 +155,7 @@ def keep(it, out, status, driver):
     if PRCTL:
         PRCTL(SUBREAPER, 1, 0, 0, 0)
         PRCTL(DEATH_SIGNAL, signal.SIGTERM, 0, 0, 0)
-    code, own = LOST, 0.0
+    code, own, child = None, 0.0, None
     if os.getppid() == driver:
         child = os.fork()
         if child == 0:
@@ -165,8 +165,21 @@ def keep(it, out, status, driver):
             os.dup2(nothing, number)
         close_others({0, 1, 2, status})
         code, own = wait_for(child)
-    processes.end_below(os.getpid(), reap)
-    os.write(status, f"{code} {own:.3f}".encode())
+    if it.outside:
+        processes.end_below(os.getpid(), reap)
+    elif child and code is None:
+        end_own(child)
+    os.write(status, f"{LOST if code is None else code} {own:.3f}".encode())
+
+
+def end_own(child):
+    """Ends a proved program, which starts no others: to look through all processes would take longer than many a task."""
+    for end in (os.killpg, os.kill):
+        try:
+            end(child, signal.SIGKILL)
+        except (ProcessLookupError, PermissionError):
+            pass
+    os.waitpid(child, 0)
 
 
 def close_others(kept):
@@ -181,14 +194,14 @@ def close_others(kept):
 
 def wait_for(child):
     """The status of the program, and its seconds of the processor; other processes that end meanwhile are taken up. Where the driver
-    asks for the end, or is gone, there is no status."""
+    asks for the end, or is gone, that is None."""
     while signal.sigwait(KEPT) != signal.SIGTERM:
         process = 1
         while process:
             process, ended, used = os.wait4(-1, os.WNOHANG)
             if process == child:
                 return as_shell(ended), used.ru_utime + used.ru_stime
-    return LOST, 0.0
+    return None, 0.0
 
 
 def as_shell(ended):
