@@ -1,4 +1,4 @@
-use Rattle.std.proofs.Common.{arith, ◌≡◌, ◌∙◌, length, ap}
+use Rattle.std.proofs.Common.{arith, ◌∙◌, [], length, ap}
 use Rattle.formula_defs.specs.Coded.{formula_of}
 use Rattle.step_laws.specs.Form.{places_of}
 use Rattle.never_form.proofs.Forms.{stops_so, size_of_task, formula_of_task}
@@ -34,4 +34,4 @@ returns-in_ok-formula-in-Ok-clause-formula c =
 pub returns-in_ok-formula-in-Ok-clause-refutes : goal.returns-in_ok-formula-in-Ok-clause-refutes
 returns-in_ok-formula-in-Ok-clause-refutes c =
     no_run_of c.args.task.now c.args.form.now c.args.clauses.now c.in_ok-formula-in-Ok.formula c.requires.task c.size-size.ensures.lawful c.requires.over.over (returns-in_ok-formula-in-Ok-clause-formula c)
-    c.laws.ensures.never_is_no_plan c.laws.ensures.plan_is_satisfying c.laws.ensures.sequence_is_plan
+    c.laws.ensures.never_is_no_plan (λ form is goal. let plan = c.laws.ensures.sequence_is_plan form 1 [] (omega arith) tt goal in c.laws.ensures.plan_is_satisfying form is 1 plan.0 plan.1)
