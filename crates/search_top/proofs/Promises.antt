@@ -462,8 +462,8 @@ module _ (laws : TopLaws) (task : Parts) (g : Grounded) (is : IsReady task g) wh
       verdict_told : (clauses : List (List ℕ)) → certificate_of g.task.facts text ≡ Ok (Forward clauses) → (f : Cnf) (verdict : Verdict) → AreTrue (initial_state g.task) clauses → IsNeverFormula g.task clauses f → HasOpened tape proof → IsVerdictOn f tape.given verdict
           → (claim : ℕ → Verdict → Type 0) → claim (length clauses) verdict → OfVerdict tape.before tape.given proof claim text task
       verdict_told clauses same f verdict true_first is_formula opened on claim holds =
-          of_ground (λ h. (cs : List (List ℕ)) × (k : Cnf) × (certificate_of h.task.facts text ≡ Ok (Forward cs)) × IsNeverFormula h.task cs k × IsReadOnce tape.before tape.given proof × AreTrue (initial_state h.task) cs × ((file : List ℕ) → IsFileOf tape.given file → claim (length cs) (verdict_of k file)))
-          (clauses, f, same, is_formula, record { opened = opened; sound = on.sound }, true_first, λ file whole. subst (claim (length clauses)) (on.is file whole) holds)
+          of_ground (λ h. (cs : List (List ℕ)) × (k : Cnf) × (certificate_of h.task.facts text ≡ Ok (Forward cs)) × IsNeverFormula h.task cs k × (IsReadOnce tape.before tape.given proof × AreTrue (initial_state h.task) cs × ((file : List ℕ) → IsFileOf tape.given file → claim (length cs) (verdict_of k file))))
+          (clauses, f, same, is_formula, (record { opened = opened; sound = on.sound }, true_first, λ file whole. subst (claim (length clauses)) (on.is file whole) holds))
 
       refuted_by : (clauses : List (List ℕ)) → certificate_of g.task.facts text ≡ Ok (Forward clauses) → ProofJudged tape proof g.task clauses end → status_of end ≡ 0 → IsRefuted tape.before tape.given proof (text_of end) text task
       refuted_by clauses same (initial k false_there e) zero = absurd (let one = ap status_of e in omega (arith, one, zero))

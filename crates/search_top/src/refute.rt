@@ -32,7 +32,7 @@ use std::thread::Threads;
 
 // How a run ends with this finding, whose text is a line that begins so and ends with a number.
 fn shown(alloc: Global, finding: Finding, front: &[u8], number: u64) -> Result<Ended, Memory>
-    ensures { IfOk result (λ end. end ≡ Shown finding (joined (front.now ++ decimal number ∷ []))) }
+    ensures { IfOk result (λ end. end ≡ Shown finding (joined ((front.now ++ decimal number) ∷ []))) }
 {
     let mut text = Vec::new(alloc);
     text.extend_from_slice(front)?;

@@ -1,5 +1,5 @@
 use Rattle.std.proofs.Common.{◌∙◌, Ok, refl, ap, arith}
-use Rattle.pl_io.specs.Tape.{Given}
+use Rattle.pl_io.specs.Tape.{Given, IsAtFront}
 use Rattle.plan_endings.proofs.published.Stopped.{handed}
 use Rattle.search_top.specs.declared.ended.Ended.TheVariants.{Plain}
 use Rattle.search_top.specs.Refuted.{over_limit, unread, judged, ended_verdict}
@@ -20,7 +20,7 @@ returns-clause-ended g c =
     let f = c.in_ok-formula.formula in
     let verdict = c.in_ok-verdict.verdict in
     let given = c.in_ok-open.ensures.given in
-    let front = record { none = ap (λ (given : Given). given.bytes) given; goes = ap (λ (given : Given). given.reading) given } in
+    let front : IsAtFront (g.T.Tape.given c.open.new.tape) = record { none = ap (λ (given : Given). given.bytes) given; goes = ap (λ (given : Given). given.reading) given } in
     judged f verdict c.requires.first c.in_ok-formula.ensures.formula (c.verdict_on.ensures.opened ∙ ap (λ (given : Given). given.opened) given) (c.in_ok-verdict.ensures.verdict front)
     (λ entries e. c.in_ok-formula.ensures.refutes (c.in_ok-verdict.ensures.refuted entries (ap Ok e)) c.requires.first)
     (c.in_ok-end.ensures ∙ ap (λ count. ended_verdict count verdict) c.len.ensures)
