@@ -70,7 +70,8 @@ class Task(NamedTuple):
 
     def domain(self):
         predicates = " ".join(f"({name}{''.join(f' ?x{it}' for it in range(arity))})" for name, arity in self.predicates.items())
-        return "\n".join(["(define (domain drawn)", "(:requirements :adl)", f"(:constants {' '.join(self.objects)})", f"(:predicates {predicates})", *(it.text() for it in self.schemas)]) + ")\n"
+        head = ["(define (domain drawn)", "(:requirements :adl)", f"(:constants {' '.join(self.objects)})", f"(:predicates {predicates})"]
+        return "\n".join(head + [it.text() for it in self.schemas]) + ")\n"
 
     def problem(self):
         initial = " ".join(f"({' '.join(it)})" for it in sorted(self.initial))

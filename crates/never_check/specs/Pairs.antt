@@ -45,8 +45,12 @@ abbrev pub AreLeftRefuted : Pair → ℕ → Held → Reached → Type 0
 AreLeftRefuted pair place held trail = AreContradicted pair.rules.now held.more.now trail.literals (cases_of pair.act.now (drop place pair.clause.now))
 
 -- each case of the literals behind a place is contradicted, together with one way at the place
+abbrev pub IsWayRefutedAt : Pair → ℕ → Held → Reached → Case → Type 0
+IsWayRefutedAt pair place held trail way = IsWayContradicted pair.rules.now held.more.now trail.literals (cases_of pair.act.now (drop (place + 1) pair.clause.now)) way
+
+-- the same of the place that is looked at
 abbrev pub IsWayRefuted : At → Held → Reached → Case → Type 0
-IsWayRefuted at held trail way = IsWayContradicted at.pair.now.rules.now held.more.now trail.literals (cases_of at.pair.now.act.now (drop (at.place + 1) at.pair.now.clause.now)) way
+IsWayRefuted at held trail way = IsWayRefutedAt at.pair.now at.place held trail way
 
 -- the way in which an effect with this condition made the opposite of the literal at a place
 abbrev pub made_at : At → List ℕ → Case

@@ -1,10 +1,11 @@
 //! The cases in which a clause is false after an action, looked through one way after another.
 
-ghost use Rattle.std.specs.Prelude.{◌≡◌, ◌*◌, length, take, slice_index, IfOk, OnOk};
+ghost use Rattle.std.specs.Prelude.{◌≡◌, ◌*◌, ◌<◌, length, take, slice_index, IfOk, OnOk};
 ghost use Rattle.gt_core.specs.Literal.{opposite};
 ghost use Rattle.std.specs.List.{AllByRecursion};
 ghost use Rattle.never_defs.specs.Cases.{conditions_of};
-ghost use Rattle.never_check.specs.{Follow.AreBelow, Verdicts.Decides, Pairs.IsAt, Pairs.IsPlace, Pairs.AreLeftRefuted, Pairs.IsWayRefuted, Pairs.made_at};
+ghost use Rattle.never_check.specs.{Follow.AreBelow, Verdicts.Decides, Pairs.IsPairOf, Pairs.IsReady, Pairs.IsAt, Pairs.IsPlace};
+ghost use Rattle.never_check.specs.Pairs.{AreLeftRefuted, IsWayRefuted, IsWayRefutedAt, made_at};
 
 use crate::begin::assume;
 use crate::rules::Rules;
@@ -96,7 +97,7 @@ fn refute_ways(pair: &Pair, place: usize, held: &Held, trail: &mut Trail) -> Res
         let refuted = refute_made(&at, &[], held, trail)?;
         return Ok(refuted);
     }
-    if !refute_way(&at, &[lit], &none, held, trail)? {
+    if !refute_way(pair, place, &[lit], &none, held, trail)? {
         return Ok(false);
     }
     let refuted = refute_conditions(&at, held, trail)?;
@@ -132,10 +133,17 @@ fn refute_made(at: &At, cond: &[u32], held: &Held, trail: &mut Trail) -> Result<
     ensures told { IfOk result (Decides (IsWayRefuted at.now held.now trail.old (made_at at.now cond.now))) }
 {
     if opposite(at.pair.clause[at.place]) % 2 == 0 {
-        let refuted = refute_way(at, cond, &FlatLists::new(at.pair.alloc), held, trail)?;
+        let refuted = refute_way(
+            at.pair,
+            at.place,
+            cond,
+            &FlatLists::new(at.pair.alloc),
+            held,
+            trail,
+        )?;
         return Ok(refuted);
     }
-    let refuted = refute_way(at, cond, at.none, held, trail)?;
+    let refuted = refute_way(at.pair, at.place, cond, at.none, held, trail)?;
     Ok(refuted)
 }
 
@@ -143,17 +151,20 @@ fn refute_made(at: &At, cond: &[u32], held: &Held, trail: &mut Trail) -> Result<
 /// is as it was.
 #[cycle(refute)]
 fn refute_way(
-    at: &At,
+    pair: &Pair,
+    place: usize,
     literals: &[u32],
     clauses: &FlatLists<u32>,
     held: &Held,
     trail: &mut Trail,
 ) -> Result<bool, Memory>
-    requires at { IsPlace at.now held.now trail.old }
+    requires pair { IsPairOf pair.now }
+    requires place { place < length pair.now.clause.now }
     requires literals { AreBelow (2 * trail.old.facts) literals.now }
     requires clauses { AllByRecursion (AreBelow (2 * trail.old.facts)) clauses.now }
+    requires ready { IsReady pair.now held.now trail.old }
     ensures kept { OnOk result (trail.new ≡ trail.old) }
-    ensures told { IfOk result (Decides (IsWayRefuted at.now held.now trail.old (record { literals = literals.now; clauses = clauses.now }))) }
+    ensures told { IfOk result (Decides (IsWayRefutedAt pair.now place held.now trail.old (record { literals = literals.now; clauses = clauses.now }))) }
 {
     let len = trail.len();
     if assume(trail, literals)? {
@@ -161,14 +172,14 @@ fn refute_way(
         return Ok(true);
     }
     if clauses.len() == 0 {
-        let refuted = refute_from(at.pair, at.place + 1, held, trail)?;
+        let refuted = refute_from(pair, place + 1, held, trail)?;
         trail.go_back(len);
         return Ok(refuted);
     }
-    let more = joined(held.more, clauses, at.pair.alloc)?;
+    let more = joined(held.more, clauses, pair.alloc)?;
     let refuted = refute_from(
-        at.pair,
-        at.place + 1,
+        pair,
+        place + 1,
         &Held {
             more: &more,
             from: held.from,

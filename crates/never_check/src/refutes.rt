@@ -3,7 +3,7 @@
 ghost use Rattle.std.specs.Prelude.{◌≡◌, ℕ, ◌*◌, ◌≤◌, ◌++◌, List, [], length, take, IfOk, OnOk, MatchBool};
 ghost use Rattle.std.specs.List.{AllByRecursion};
 ghost use Rattle.gt_core.specs.Literal.{is_in};
-ghost use Rattle.never_check.specs.{Follow.AreBelow, Follow.HasAll, Follow.Adds, Rules.AreRules, Rules.ObeysRules};
+ghost use Rattle.never_check.specs.{Follow.AreBelow, Follow.HasAll, Follow.IsGrown, Follow.IsContradiction, Rules.AreRules, Rules.ObeysRules};
 ghost use Rattle.never_check.specs.{Rules.AreFollowed, Rules.ObeysWith, Verdicts.IsLeast, Verdicts.AreRefuted, Verdicts.HasLeast};
 
 use crate::begin::assume;
@@ -20,8 +20,11 @@ pub fn refutes(rules: &Rules, lits: &[u32], trail: &mut Trail) -> Result<bool, M
     requires followed { AreFollowed rules.now trail.old.literals trail.old.literals }
     ensures facts { OnOk result (trail.new.facts ≡ trail.old.facts) }
     ensures front { OnOk result (take (length trail.old.literals) trail.new.literals ≡ trail.old.literals) }
-    ensures told { IfOk result (Adds (ObeysWith rules.now lits.now) trail.old.literals trail.new.literals
-        (AreFollowed rules.now trail.new.literals trail.new.literals × HasAll (is_in trail.new.literals) lits.now)) }
+    ensures told { IfOk result (λ b. MatchBool b
+        (IsContradiction (ObeysWith rules.now lits.now) trail.old.literals)
+        (IsGrown (ObeysWith rules.now lits.now) trail.old.literals trail.new.literals
+        × AreFollowed rules.now trail.new.literals trail.new.literals
+        × HasAll (is_in trail.new.literals) lits.now)) }
 {
     let from = trail.len();
     if assume(trail, lits)? {

@@ -1,10 +1,10 @@
 //! Unit propagation over some more clauses.
 
-ghost use Rattle.std.specs.Prelude.{◌≡◌, ℕ, ◌+◌, ◌*◌, ◌<◌, ◌≤◌, ◌++◌, ◌&&◌, not, [], true, length, take, map, IfOk, OnOk};
+ghost use Rattle.std.specs.Prelude.{◌≡◌, ℕ, ◌+◌, ◌*◌, ◌<◌, ◌≤◌, ◌++◌, ◌&&◌, not, [], true, length, take, map, IfOk, OnOk, MatchBool};
 ghost use Rattle.std.specs.List.{AllByRecursion};
 ghost use Rattle.gt_core.specs.{Literal.opposite, Literal.is_in, Interference.action_may_make, Interference.action_surely_makes};
 ghost use Rattle.never_defs.specs.Cases.{none_makes};
-ghost use Rattle.never_check.specs.{Follow.Obeys, Follow.AreBelow, Follow.Adds, Rules.AreRules, Rules.AreFollowed, Refuted.ObeysMore};
+ghost use Rattle.never_check.specs.{Follow.Obeys, Follow.AreBelow, Follow.IsGrown, Follow.IsContradiction, Rules.AreRules, Rules.AreFollowed, Refuted.ObeysMore};
 
 use crate::begin::look_all;
 use crate::propagate::propagate;
@@ -31,8 +31,11 @@ pub fn settle(
     requires followed { AreFollowed rules.now (take from trail.old.literals) trail.old.literals }
     ensures facts { trail.new.facts ≡ trail.old.facts }
     ensures front { OnOk result (take (length trail.old.literals) trail.new.literals ≡ trail.old.literals) }
-    ensures told { IfOk result (Adds (ObeysMore rules.now more.now) trail.old.literals trail.new.literals
-        (AreFollowed rules.now trail.new.literals trail.new.literals × AllByRecursion (Obeys (is_in trail.new.literals)) more.now)) }
+    ensures told { IfOk result (λ b. MatchBool b
+        (IsContradiction (ObeysMore rules.now more.now) trail.old.literals)
+        (IsGrown (ObeysMore rules.now more.now) trail.old.literals trail.new.literals
+        × AreFollowed rules.now trail.new.literals trail.new.literals
+        × AllByRecursion (Obeys (is_in trail.new.literals)) more.now)) }
 {
     let mut start = from;
     'settle: loop {

@@ -1,10 +1,9 @@
 -- Literals below a bound stay below one where they are moved, turned or made a clause.
-use Rattle.std.proofs.Common.{arith, ◌≡◌, ◌==◌, ◌∙◌, ℕ, zero, suc, ◌+◌, ◌-◌, ◌*◌, ◌/◌, ◌%◌, ◌<◌, ◌≤◌, List, [], ◌∷◌, ◌++◌, map, length, Bool, true, false, fold, nat_lt, refl, sym, ap, subst, slice_get, All, Option, Some, None, if◌then◌else◌}
+use Rattle.std.proofs.Common.{arith, ◌≡◌, ◌==◌, ◌∙◌, ℕ, zero, suc, ◌+◌, ◌-◌, ◌*◌, ◌/◌, ◌%◌, ◌<◌, ◌≤◌, List, [], ◌∷◌, ◌++◌, map, Bool, true, false, fold, nat_lt, refl, sym, ap, subst, slice_get, Option, Some, None, if◌then◌else◌}
 use Rattle.std.specs.List.{AllByRecursion}
 use Rattle.std.proofs.lemmas.Bool.Decides.{nat_tests}
-use Rattle.std.proofs.lemmas.List.Elements.{All-nil, All-cons}
 use Rattle.containers.specs.Rising.{put}
-use Rattle.gt_core.specs.Literal.{opposite, range_from}
+use Rattle.gt_core.specs.Literal.{opposite}
 use Rattle.std.proofs.lemmas.List.{append-nil, append_assoc}
 use Rattle.clause_base.specs.Clause.{HasVariablesBelow, has_opposite_pair, clause_of}
 use Rattle.formula_defs.proofs.published.Within.{all_of}

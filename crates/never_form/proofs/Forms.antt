@@ -1,15 +1,13 @@
 -- What is made by a form of a task is told of the task.
-use Rattle.std.proofs.Common.{arith, ◌≡◌, ◌∙◌, ℕ, ◌+◌, ◌*◌, ◌<◌, ◌≤◌, List, [], ◌∷◌, length, Result, Ok, Err, refl, sym, ap, subst}
+use Rattle.std.proofs.Common.{◌≡◌, ◌∙◌, ℕ, ◌<◌, ◌≤◌, List, Result, Ok, Err, refl, ap, subst}
 use Rattle.std.specs.Prelude.{IfOk}
-use Rattle.std.specs.List.{AllByRecursion}
 use Rattle.clause_base.specs.Formula.{Cnf}
 use Rattle.gt_core.specs.Task.{Task}
 use Rattle.gt_core.specs.Clauses.{KnownClauses}
 use Rattle.gt_core.specs.Published.{IsPublished}
 use Rattle.two_invariants.specs.Closed.{AreInvariants}
 use Rattle.formula_defs.specs.Coded.{formula_of}
-use Rattle.formula_defs.specs.Variables.{chain_places}
-use Rattle.step_laws.specs.Form.{OrderedTask, IsOrderedTask, places_of}
+use Rattle.step_laws.specs.Form.{OrderedTask, places_of}
 use Rattle.step_laws.specs.Never.{never_formula}
 use Rattle.step_encoding.specs.Limits.{most_literals}
 use Rattle.step_encoding.specs.Numbers.{literals_of}

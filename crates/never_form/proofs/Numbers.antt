@@ -1,13 +1,13 @@
 -- The numbers of the formula of clauses are in range where there are not too many literals.
-use Rattle.std.proofs.Common.{arith, ◌≡◌, ◌∙◌, ℕ, ◌+◌, ◌-◌, ◌*◌, ◌/◌, ◌<◌, ◌≤◌, List, [], ◌∷◌, ◌++◌, map, drop, length, true, refl, sym, ap, subst, Bool, false, if◌then◌else◌}
+use Rattle.std.proofs.Common.{arith, ◌≡◌, ◌∙◌, ℕ, ◌+◌, ◌*◌, ◌/◌, ◌<◌, ◌≤◌, List, [], ◌∷◌, ◌++◌, drop, length, true, refl, ap, subst, Bool, false, if◌then◌else◌}
 use Rattle.std.specs.List.{AllByRecursion}
 use Rattle.std.proofs.lemmas.List.{length-map, length-append}
 use Rattle.clause_base.specs.Formula.{Cnf}
 use Rattle.gt_core.specs.Task.{Task}
 use Rattle.gt_core.specs.Lawful.{is_task, conditional_in}
-use Rattle.gt_core.proofs.published.Within.{Lawful, lawful, literals_within}
-use Rattle.formula_defs.specs.Layout.{Layout, variables, width}
-use Rattle.formula_defs.specs.Variables.{layout_of, chain_variables_in}
+use Rattle.gt_core.proofs.published.Within.{lawful, literals_within}
+use Rattle.formula_defs.specs.Layout.{variables}
+use Rattle.formula_defs.specs.Variables.{layout_of}
 use Rattle.formula_defs.specs.Formula.{step_clauses, pair_clauses}
 use Rattle.formula_defs.specs.Coded.{coded, formula_of, literals_in}
 use Rattle.formula_defs.specs.Shift.{one_step, one_time}
@@ -17,12 +17,12 @@ use Rattle.formula_defs.proofs.published.SizeLaw.{size_law, chains_within_size}
 use Rattle.formula_defs.proofs.published.ShiftLaw.{known_moved}
 use Rattle.formula_defs.proofs.published.FewLaw.{step_few, time_few}
 use Rattle.step_laws.proofs.published.Ranges.{in_range_of}
-use Rattle.step_laws.specs.Form.{places_of}
-use Rattle.step_encoding.specs.Limits.{most_literals}
-use Rattle.never_form.specs.Formed.{needed, never_size}
+use Rattle.step_laws.specs.Form.{OrderedTask, IsOrderedTask, places_of}
+use Rattle.step_encoding.specs.Numbers.{literals_of}
+use Rattle.never_form.specs.Formed.{needed}
 use Rattle.never_form.specs.own.Parts.{ends, HasNumbers}
 use Rattle.never_form.specs.own.One.{IsOne}
-use Rattle.never_form.proofs.Same.{step_part, rest_is}
+use Rattle.never_form.proofs.Same.{rest_is}
 
 -- what clauses need are three times their literals, and one more for each
 pub needed_is : (clauses : List (List ℕ)) → needed clauses ≡ 3 * literals_in clauses + length clauses
@@ -99,3 +99,10 @@ numbers task one clauses is fits over =
       rest = omega (arith, need, small, rest, left, literals);
       ends = omega (arith, bf, small, hopeless);
     }
+
+-- the goal has no more literals than the formula of horizon 1
+pub goal_few : (task : Task) (form : OrderedTask) → form.task ≡ task → IsOrderedTask form → length task.goal ≤ literals_of (formula_of task form.known.clauses (places_of form) 1)
+goal_few task form same is =
+    let range : IsInRange task form.known.clauses (places_of form) = subst (λ (t : Task). IsInRange t form.known.clauses (places_of form)) same (in_range_of form is) in
+    let size = size_law task form.known.clauses (places_of form) 1 range in
+    omega (arith, size)

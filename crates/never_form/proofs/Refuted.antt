@@ -1,8 +1,7 @@
 -- Where nothing satisfies the formula of clauses that hold at first, no actions lead to the goal. Where there are no facts the law of the
 -- formula says nothing; then a run to the goal would be the empty one, and the formula would have a satisfying assignment.
-use Rattle.std.proofs.Common.{arith, ◌≡◌, ◌==◌, ◌∙◌, ℕ, zero, suc, ◌+◌, ◌-◌, ◌*◌, ◌/◌, ◌%◌, ◌<◌, ◌≤◌, List, [], ◌∷◌, ◌++◌, drop, length, Bool, true, false, ◌||◌, not, refl, sym, ap, subst, nat_lt, if◌then◌else◌, inl, inr}
-use Rattle.std.specs.Prelude.{All, cond}
-use Rattle.std.specs.List.{AllByRecursion, list_any}
+use Rattle.std.proofs.Common.{arith, ◌≡◌, ◌==◌, ◌∙◌, ℕ, zero, suc, ◌*◌, ◌/◌, ◌%◌, ◌<◌, List, [], ◌∷◌, ◌++◌, drop, Bool, true, false, ◌||◌, not, refl, sym, ap, subst, nat_lt, if◌then◌else◌}
+use Rattle.std.specs.List.{AllByRecursion}
 use Rattle.std.proofs.lemmas.Bool.Decides.{nat_tests}
 use Rattle.std.proofs.lemmas.List.Elements.{All-head, All-tail}
 use Rattle.clause_base.specs.Clause.{HasVariablesBelow, clause_value}
@@ -10,7 +9,7 @@ use Rattle.clause_base.specs.Formula.{Cnf, IsUnsatisfiable, Satisfies}
 use Rattle.gt_core.specs.Literal.{holds}
 use Rattle.gt_core.specs.Task.{Task, initial_state}
 use Rattle.gt_core.specs.Execution.{IsGoal}
-use Rattle.gt_core.specs.Laws.{HasNoRun, IsRunToGoal}
+use Rattle.gt_core.specs.Laws.{HasNoRun}
 use Rattle.gt_core.proofs.published.Basics.{each_from}
 use Rattle.gt_core.proofs.published.Literals.{holds_add}
 use Rattle.formula_defs.specs.Layout.{Layout, variables}
@@ -22,12 +21,17 @@ use Rattle.formula_defs.proofs.published.InRange.{IsInRange}
 use Rattle.formula_defs.proofs.published.SizeLaw.{single_clause}
 use Rattle.formula_defs.proofs.published.Within.{step_within, known_within}
 use Rattle.step_laws.proofs.published.Ranges.{in_range_of}
-use Rattle.step_laws.specs.Form.{OrderedTask, IsOrderedTask, IsPlanOf, places_of}
+use Rattle.step_laws.specs.Form.{OrderedTask, IsOrderedTask, places_of}
 use Rattle.step_laws.specs.Never.{AreOver, never_formula, NeverIsNoPlan}
-use Rattle.step_laws.specs.own.Laws.{PlanIsSatisfying, SequenceIsPlan}
 use Rattle.never_defs.specs.Sets.{AreTrue}
 use Rattle.never_form.specs.own.Parts.{ends, own_parts}
-use Rattle.never_form.proofs.Same.{step_part, rest_is, clauses_same}
+use Rattle.never_form.proofs.Same.{rest_is, clauses_same}
+
+-- where the initial state is a goal state an assignment satisfies the formula of horizon 1
+abbrev pub HasModelAtGoal : Type 0
+HasModelAtGoal =
+    (form : OrderedTask) → IsOrderedTask form → IsGoal form.task (initial_state form.task)
+    → (v : ℕ → Bool) × Satisfies v (formula_of form.task form.known.clauses (places_of form) 1).clauses
 
 over_by_half : (facts : ℕ) (clauses : List (List ℕ)) → AllByRecursion (AllByRecursion (λ l. l < 2 * facts)) clauses → AreOver facts clauses
 over_by_half facts [] h = tt
@@ -109,20 +113,30 @@ module _ (task : Task) (pairs : List (ℕ × ℕ)) (places : List (List ℕ × �
 
 module _ (form : OrderedTask) (is : IsOrderedTask form) (clauses : List (List ℕ)) (over : AllByRecursion (AllByRecursion (λ l. l < 2 * form.task.facts)) clauses)
     (none : IsUnsatisfiable (never_formula form.task form.known.clauses (places_of form) clauses).clauses) (at_first : AreTrue (initial_state form.task) clauses) where
-  without_facts : PlanIsSatisfying → SequenceIsPlan → form.task.facts ≡ 0 → HasNoRun form.task
-  without_facts satisfying sequence no_facts ks run =
+  without_facts : HasModelAtGoal → form.task.facts ≡ 0 → HasNoRun form.task
+  without_facts has_model no_facts ks run =
       let range = in_range_of form is in
       let goal : form.task.goal ≡ [] = no_goal form.task.goal (subst (λ (n : ℕ). AllByRecursion (λ l. l / 2 < n) form.task.goal) no_facts (each_from _ form.task.goal (λ l i. range.goals l i))) in
       let reached : IsGoal form.task (initial_state form.task) = record { hopeful = run.reaches.hopeful; reached = rw goal refl } in
-      let plan = sequence form 1 [] (omega arith) tt reached in
-      let model = satisfying form is 1 plan.0 plan.1 in
+      let model = has_model form is reached in
       let empty : clauses ≡ [] = no_clauses (initial_state form.task) clauses (subst (λ (n : ℕ). AreOver n clauses) no_facts (over_by_half form.task.facts clauses over)) at_first in
       none (filled model.0 (variables (layout_of form.task (places_of form) 1))) (subst (λ (cs : List (List ℕ)). Satisfies (filled model.0 (variables (layout_of form.task (places_of form) 1))) (never_formula form.task form.known.clauses (places_of form) cs).clauses) (sym empty)
       (satisfied form.task form.known.clauses (places_of form) range model.0 goal model.1))
 
-  pub no_run : NeverIsNoPlan → PlanIsSatisfying → SequenceIsPlan → HasNoRun form.task
-  no_run law satisfying sequence = by form.task.facts refl
+  pub no_run : NeverIsNoPlan → HasModelAtGoal → HasNoRun form.task
+  no_run law has_model = by form.task.facts refl
     where
       by : (n : ℕ) → form.task.facts ≡ n → HasNoRun form.task
-      by zero e = without_facts satisfying sequence e
+      by zero e = without_facts has_model e
       by (suc n) e = λ ks run. law form is (omega (arith, e)) clauses (over_by_half form.task.facts clauses over) at_first none ks run.runs run.reaches
+
+-- the same of a task that a form has, and of a formula that is made
+pub no_run_of :
+    (task : Task) (form : OrderedTask) (clauses : List (List ℕ)) (formula : Cnf) → form.task ≡ task → IsOrderedTask form
+    → AllByRecursion (AllByRecursion (λ l. l < 2 * task.facts)) clauses → formula ≡ never_formula task form.known.clauses (places_of form) clauses
+    → NeverIsNoPlan → HasModelAtGoal → IsUnsatisfiable formula.clauses → AreTrue (initial_state task) clauses → HasNoRun task
+no_run_of task form clauses formula same is over made law has_model none first =
+    let back : formula ≡ never_formula form.task form.known.clauses (places_of form) clauses = made ∙ ap (λ (t : Task). never_formula t form.known.clauses (places_of form) clauses) (sym same) in
+    subst HasNoRun same
+    (no_run form is clauses (subst (λ (t : Task). AllByRecursion (AllByRecursion (λ l. l < 2 * t.facts)) clauses) (sym same) over) (subst (λ (f : Cnf). IsUnsatisfiable f.clauses) back none)
+    (subst (λ (t : Task). AreTrue (initial_state t) clauses) (sym same) first) law has_model)

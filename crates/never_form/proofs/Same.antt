@@ -1,21 +1,21 @@
 -- The formula of clauses is what is made of the formula of horizon 1.
-use Rattle.std.proofs.Common.{arith, ◌≡◌, ◌==◌, ◌∙◌, ℕ, zero, suc, ◌+◌, ◌-◌, ◌*◌, ◌/◌, ◌%◌, List, [], ◌∷◌, ◌++◌, map, drop, length, Bool, true, false, refl, sym, ap, append_assoc, if◌then◌else◌}
-use Rattle.std.specs.List.{filter_map, cons_option, flat_map}
+use Rattle.std.proofs.Common.{arith, ◌≡◌, ◌==◌, ◌∙◌, ℕ, ◌+◌, ◌-◌, ◌*◌, ◌/◌, ◌%◌, List, [], ◌∷◌, ◌++◌, map, drop, length, Bool, true, false, refl, sym, ap, append_assoc, if◌then◌else◌}
+use Rattle.std.specs.List.{cons_option}
 use Rattle.std.proofs.lemmas.List.{length-map, length-append, map-append, append-nil}
 use Rattle.std.proofs.lemmas.Bool.Decides.{nat_tests}
 use Rattle.std.proofs.Math.Seq.{drop-append_seam}
 use Rattle.clause_base.specs.Clause.{clause_of}
 use Rattle.clause_base.specs.Formula.{Cnf}
-use Rattle.gt_core.specs.Literal.{opposite, range, range_from}
+use Rattle.gt_core.specs.Literal.{opposite, range}
 use Rattle.gt_core.specs.Task.{Task, initial_state}
-use Rattle.formula_defs.specs.Layout.{Layout, fact_at, variables, width}
+use Rattle.formula_defs.specs.Layout.{Layout, fact_at, variables}
 use Rattle.formula_defs.specs.Clause.{Literal, Is, Not, code}
 use Rattle.formula_defs.specs.Variables.{layout_of}
 use Rattle.formula_defs.specs.Formula.{literal_over, step_clauses, pair_clauses, initial_clauses, goal_clauses, clauses_of_horizon}
 use Rattle.formula_defs.specs.Coded.{coded, formula_of}
 use Rattle.formula_defs.proofs.published.CodedLaw.{coded-append}
 use Rattle.formula_defs.proofs.published.SizeLaw.{singles, length-range_from}
-use Rattle.step_laws.specs.Never.{cubes_of, cube_clauses, some_cube, never_clauses, never_formula}
+use Rattle.step_laws.specs.Never.{cubes_of, cube_clauses, some_cube, never_formula}
 use Rattle.never_form.specs.own.Parts.{made, moved, cube, cubes, some, ends, own_parts, joined}
 use Rattle.never_form.proofs.Turns.{made_parts}
 

@@ -1,5 +1,5 @@
 -- What a turn of a loop adds to a list that is made item by item.
-use Rattle.std.proofs.Common.{arith, ◌≡◌, ◌∙◌, ℕ, zero, suc, ◌+◌, ◌*◌, ◌≤◌, List, [], ◌∷◌, ◌++◌, map, drop, length, Some, slice_get, refl, sym, ap, subst, append_assoc, ◌<◌}
+use Rattle.std.proofs.Common.{arith, ◌≡◌, ◌∙◌, ℕ, zero, suc, ◌+◌, ◌*◌, ◌≤◌, List, [], ◌∷◌, ◌++◌, map, drop, length, Some, slice_get, sym, ap, subst, append_assoc, ◌<◌}
 use Rattle.std.specs.List.{AllByRecursion}
 use Rattle.std.proofs.lemmas.List.Elements.{filter_map-append}
 use Rattle.clause_base.specs.Clause.{clause_of}

@@ -108,7 +108,7 @@ OfFormula certificate task claim =
 
 -- the text is that of its formula
 abbrev pub TellsFormula : List ℕ → List ℕ → Parts → Type 0
-TellsFormula text certificate task = OfFormula certificate task (λ ground clauses f. text ≡ never_text f)
+TellsFormula text certificate task = OfFormula certificate task (λ grounded clauses f. text ≡ never_text f)
 
 -- What a tape had given before a run and after it, and the name of a proof.
 module _ (old new : Given) (proof : List ℕ) where
@@ -116,7 +116,7 @@ module _ (old new : Given) (proof : List ℕ) where
   -- state; and the claim holds of the verdict on the bytes of the whole file, of which some were handed over
   abbrev pub OfVerdict : (ℕ → Verdict → Type 0) → List ℕ → Parts → Type 0
   OfVerdict claim certificate task =
-      OfFormula certificate task (λ ground clauses f. IsReadOnce old new proof × AreTrue (initial_state ground) clauses
+      OfFormula certificate task (λ grounded clauses f. IsReadOnce old new proof × AreTrue (initial_state grounded) clauses
       × ((file : List ℕ) → IsFileOf new file → claim (length clauses) (verdict_of f file)))
 
   -- the verdict is that the lines derive the empty clause from the formula, or that the formula has it, and the text tells that

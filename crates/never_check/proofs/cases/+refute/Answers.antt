@@ -20,48 +20,48 @@ use Rattle.never_check.proofs.cases.+refute.Goals as goal
 pub refute_way-refute_from-requires : goal.refute_way-refute_from-requires
 refute_way-refute_from-requires t c =
     let a = when_false c.in_ok-assume.field-0 _ c.if-branch.false c.in_ok-assume.ensures.told in
-    let ready = ready_next c.args.at.now.pair.now c.args.held.now c.args.trail.now c.assume.new.trail c.requires.at.ready c.in_ok-assume.ensures.facts a.0.front a.0.apart in
-    (search rules, record { pair = c.requires.at.pair; place = let place = c.requires.at.place in omega (arith, place); ready = ready })
+    let ready = ready_next c.args.pair.now c.args.held.now c.args.trail.now c.assume.new.trail c.requires.ready c.in_ok-assume.ensures.facts a.0.front a.0.apart in
+    (search rules, record { pair = c.requires.pair; place = let place = c.requires.place in omega (arith, place); ready = ready })
 
 pub refute_way-refute_from-requires-2 : goal.refute_way-refute_from-requires-2
 refute_way-refute_from-requires-2 t c =
     let a = when_false c.in_ok-assume.field-0 _ c.if-branch.false c.in_ok-assume.ensures.told in
-    let place = c.requires.at.place in (
+    let place = c.requires.place in (
       search rules,
       record {
-        pair = c.requires.at.pair;
+        pair = c.requires.pair;
         place = omega (arith, place);
         ready =
-            ready_joined c.args.at.now.pair.now c.args.held.now c.args.trail.now c.assume.new.trail c.requires.at.ready c.in_ok-assume.ensures.facts a.0.front a.0.apart _ c.args.clauses.now refl c.in_ok-more.ensures
+            ready_joined c.args.pair.now c.args.held.now c.args.trail.now c.assume.new.trail c.requires.ready c.in_ok-assume.ensures.facts a.0.front a.0.apart _ c.args.clauses.now refl c.in_ok-more.ensures
             c.requires.clauses;
       },
     )
 
 pub refute_way-returns-clause-told : goal.refute_way-returns-clause-told
 refute_way-returns-clause-told t c =
-    let pair = c.args.at.now.pair.now in
+    let pair = c.args.pair.now in
     let more = c.args.held.now.more.now in
     let tr = c.args.trail.now.literals in
     let a = when_false c.in_ok-assume.field-0 _ c.if-branch.false c.in_ok-assume.ensures.told in
-    let qs = cases_of pair.act.now (drop (c.args.at.now.place + 1) pair.clause.now) in
+    let qs = cases_of pair.act.now (drop (c.args.place + 1) pair.clause.now) in
     either_way c.in_ok-refuted-2.refuted
     (way_true pair.rules.now more tr c.args.literals.now c.args.clauses.now c.in_ok-more.more c.in_ok-more.ensures c.assume.new.trail.literals a qs)
     (way_false pair.rules.now more tr c.args.literals.now c.args.clauses.now c.in_ok-more.more c.in_ok-more.ensures c.assume.new.trail.literals a qs) c.in_ok-refuted-2.ensures.told
 
 pub refute_way-returns-then-branch-clause-told : goal.refute_way-returns-then-branch-clause-told
 refute_way-returns-then-branch-clause-told t c =
-    let pair = c.args.at.now.pair.now in
-    way_clash pair.rules.now c.args.held.now.more.now c.args.trail.now.literals c.args.literals.now c.args.clauses.now (cases_of pair.act.now (drop (c.args.at.now.place + 1) pair.clause.now))
+    let pair = c.args.pair.now in
+    way_clash pair.rules.now c.args.held.now.more.now c.args.trail.now.literals c.args.literals.now c.args.clauses.now (cases_of pair.act.now (drop (c.args.place + 1) pair.clause.now))
     (when_true c.in_ok-assume.field-0 _ c.if-branch.true c.in_ok-assume.ensures.told)
 
 pub refute_way-returns-then-len-eq0-clause-told : goal.refute_way-returns-then-len-eq0-clause-told
 refute_way-returns-then-len-eq0-clause-told t c =
-    let pair = c.args.at.now.pair.now in
+    let pair = c.args.pair.now in
     let more = c.args.held.now.more.now in
     let tr = c.args.trail.now.literals in
     let a = when_false c.in_ok-assume.field-0 _ c.if-branch.false c.in_ok-assume.ensures.told in
     let joins = joins_none more c.args.clauses.now (sym c.len.ensures ∙ c.if-len-eq0.true) in
-    let qs = cases_of pair.act.now (drop (c.args.at.now.place + 1) pair.clause.now) in
+    let qs = cases_of pair.act.now (drop (c.args.place + 1) pair.clause.now) in
     either_way c.in_ok-refuted.refuted
     (way_true pair.rules.now more tr c.args.literals.now c.args.clauses.now more joins c.assume.new.trail.literals a qs)
     (way_false pair.rules.now more tr c.args.literals.now c.args.clauses.now more joins c.assume.new.trail.literals a qs) c.in_ok-refuted.ensures.told
@@ -133,13 +133,7 @@ refute_ways-refute_way-requires t c =
     let facts = c.requires.ready.facts in
     let lit = literal_below pair.rules.now.known.now.facts pair.clause.now c.args.place c.opposite-lit.result c.requires.pair.over lt c.opposite-lit.ensures in
     let none = subst (λ (k : ℕ). AllByRecursion (AreBelow (2 * k)) (none_makes pair.act.now c.opposite.result)) (sym facts) (none_below pair.rules.now.known.now.facts c.opposite.result pair.act.now.effects c.requires.pair.fits.effects) in
-    let is = c.in_ok-none.ensures ∙ ap (none_makes pair.act.now) (c.opposite.ensures ∙ ap opposite c.opposite-lit.ensures) in (
-      search rules,
-      (
-        record { pair = c.requires.pair; place = lt; none = is; ready = c.requires.ready },
-        ((omega (arith, lit, facts), tt), subst (λ (cs : List (List ℕ)). AllByRecursion (AreBelow (2 * c.args.trail.now.facts)) cs) (sym c.in_ok-none.ensures) none),
-      ),
-    )
+    (search rules, (c.requires.pair, (lt, ((omega (arith, lit, facts), tt), (subst (λ (cs : List (List ℕ)). AllByRecursion (AreBelow (2 * c.args.trail.now.facts)) cs) (sym c.in_ok-none.ensures) none, c.requires.ready)))))
 
 pub refute_ways-refute_made-requires : goal.refute_ways-refute_made-requires
 refute_ways-refute_made-requires t c =
@@ -201,7 +195,7 @@ refute_made-refute_way-requires-2 t c =
     let pair = c.args.at.now.pair.now in
     let facts = c.requires.at.ready.facts in
     let none = subst (λ (k : ℕ). AllByRecursion (AreBelow (2 * k)) c.args.at.now.none.now) (sym facts) (subst (λ (cs : List (List ℕ)). AllByRecursion (AreBelow (2 * pair.rules.now.known.now.facts)) cs) (sym c.requires.at.none) (none_below pair.rules.now.known.now.facts _ pair.act.now.effects c.requires.at.pair.fits.effects)) in
-    (search rules, (c.requires.at, (c.requires.cond, none)))
+    (search rules, (c.requires.at.pair, (c.requires.at.place, (c.requires.cond, (none, c.requires.at.ready)))))
 
 pub refute_from-returns-then-branch-clause-told : goal.refute_from-returns-then-branch-clause-told
 refute_from-returns-then-branch-clause-told t c =

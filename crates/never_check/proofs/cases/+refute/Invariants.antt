@@ -19,7 +19,7 @@ abbrev pub decreases-refute_ways : goal.decreases-refute_ways
 decreases-refute_ways l = 8 * (length l.pair.now.clause.now - l.place) + 5
 
 abbrev pub decreases-refute_way : goal.decreases-refute_way
-decreases-refute_way l = 8 * (length l.at.now.pair.now.clause.now - l.at.now.place) + 2
+decreases-refute_way l = 8 * (length l.pair.now.clause.now - l.place) + 2
 
 abbrev pub invariant-refute_conditions-loop-effect : goal.invariant-refute_conditions-loop-effect
 invariant-refute_conditions-loop-effect l = record {

@@ -16,11 +16,11 @@ returns-then-branch-clause-told c =
     let told = begun_told rules task.goal c.goal.result.now c.in_ok-refutes.field-0 c.args.trail.now c.refutes.new.trail c.requires.weighing.base c.in_ok-refutes.ensures.facts c.goal.ensures c.in_ok-refutes.ensures.told in
     never_there rules c.requires.weighing.none c.args.weights.now task (when_true c.in_ok-refutes.field-0 _ c.if-branch.true told)
 
-pub compared-requires-clause-facts : goal.compared-requires-clause-facts
-compared-requires-clause-facts c = c.in_ok-refutes.ensures.facts ∙ c.requires.weighing.base.facts ∙ c.requires.facts
+pub compared-sums-requires-clause-facts : goal.compared-sums-requires-clause-facts
+compared-sums-requires-clause-facts c = c.in_ok-refutes.ensures.facts ∙ c.requires.weighing.base.facts ∙ c.requires.facts
 
-pub compared-requires-clause-weights : goal.compared-requires-clause-weights
-compared-requires-clause-weights c = subst (λ (k : ℕ). AreSummed (2 * k) c.args.weights.now) c.requires.facts c.requires.weighing.weights
+pub compared-sums-requires-clause-weights : goal.compared-sums-requires-clause-weights
+compared-sums-requires-clause-weights c = subst (λ (k : ℕ). AreSummed (2 * k) c.args.weights.now) c.requires.facts c.requires.weighing.weights
 
 pub returns-clause-told : goal.returns-clause-told
 returns-clause-told c =

@@ -12,8 +12,8 @@ returns-then-branch-clause-told c =
     let told = begun_told rules x.precondition c.pre.result.now c.in_ok-refutes.field-0 c.args.trail.now c.refutes.new.trail c.requires.weighing.base c.in_ok-refutes.ensures.facts c.pre.ensures c.in_ok-refutes.ensures.told in
     never_able rules c.requires.weighing.none c.args.weights.now x (when_true c.in_ok-refutes.field-0 _ c.if-branch.true told)
 
-pub moved-requires-clause-weights : goal.moved-requires-clause-weights
-moved-requires-clause-weights c = subst (λ (k : ℕ). AreSummed (2 * k) c.args.weights.now) (sym (c.in_ok-refutes.ensures.facts ∙ c.requires.weighing.base.facts)) c.requires.weighing.weights
+pub moved-sums-requires-clause-weights : goal.moved-sums-requires-clause-weights
+moved-sums-requires-clause-weights c = subst (λ (k : ℕ). AreSummed (2 * k) c.args.weights.now) (sym (c.in_ok-refutes.ensures.facts ∙ c.requires.weighing.base.facts)) c.requires.weighing.weights
 
 pub returns-clause-told : goal.returns-clause-told
 returns-clause-told c =

@@ -1,4 +1,4 @@
-use Rattle.std.proofs.Common.{◌≡◌, ◌≤◌, ◌+◌, ◌++◌, drop, length}
+use Rattle.std.proofs.Common.{◌≡◌, ◌++◌, drop}
 use Rattle.never_form.proofs.adds.add_rest.Given as goal
 
 abbrev pub invariant-loop-number : goal.invariant-loop-number

@@ -1,6 +1,5 @@
-use Rattle.std.proofs.Common.{◌≡◌, ◌/◌, ◌<◌, List, ℕ, subst, sym}
+use Rattle.std.proofs.Common.{◌/◌, ◌<◌, ℕ, subst, sym}
 use Rattle.std.specs.List.{AllByRecursion}
-use Rattle.never_form.specs.own.Parts.{some}
 use Rattle.never_form.proofs.Below.{some_turn, some_end, some_below}
 use Rattle.never_form.proofs.adds.add_some.Goals as goal
 

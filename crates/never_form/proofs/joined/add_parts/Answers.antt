@@ -1,4 +1,4 @@
-use Rattle.std.proofs.Common.{arith, ◌≡◌, ◌∙◌, ◌+◌, ◌*◌, ◌≤◌, List, ℕ, length, ap}
+use Rattle.std.proofs.Common.{arith, ◌≡◌, ◌∙◌, ◌+◌, length, ap}
 use Rattle.clause_base.specs.Formula.{Cnf}
 use Rattle.never_form.proofs.Below.{turned_fit}
 use Rattle.never_form.proofs.joined.add_parts.Goals as goal

@@ -1,7 +1,4 @@
-use Rattle.std.proofs.Common.{arith, ◌≡◌, ◌+◌, ◌≤◌, List, ℕ, length, drop, ap}
-use Rattle.clause_base.specs.Formula.{Cnf}
-use Rattle.gt_core.specs.Task.{Task}
-use Rattle.never_form.specs.own.Parts.{ends, HasNumbers}
+use Rattle.std.proofs.Common.{arith, ℕ, length, drop, ap}
 use Rattle.never_form.proofs.Numbers.{numbers}
 use Rattle.never_form.proofs.joined.joined.Goals as goal
 
