@@ -49,7 +49,7 @@ fn main(rt: HostRuntime) -> ExitCode {
         return planner::run_program(&rt, rt.alloc(), env::args(&rt));
     }
     if first == "judge" {
-        return plan_endings::start::<HostRuntime, judging::Judge>(&rt, rt.alloc(), planner::behind(env::args(&rt)));
+        return judging::run_program(&rt, rt.alloc(), env::args(&rt));
     }
     if first == "test" {
         run_test(&rt, word_at(&words, 2));
@@ -64,7 +64,7 @@ fn main(rt: HostRuntime) -> ExitCode {
 
 # For a main that gives its words to a call which passes over the first one.
 BEHIND = """
-pub(crate) fn behind(given: io::Result<Args<Global>>) -> io::Result<Args<Global>> {
+fn behind(given: io::Result<Args<Global>>) -> io::Result<Args<Global>> {
     let mut words = given?;
     let _ = words.next();
     Ok(words)
@@ -103,7 +103,7 @@ def take_mains(crates, source):
         text = text[: text.index("fn main(")].replace("#![tactic(auto)]\n", "").replace("//!", "//").replace("given.skip(1)", "given.skip(2)")
         if "words_of(alloc, given)" in text:
             text = text.replace("words_of(alloc, given)", "words_of(alloc, behind(given))") + BEHIND
-        (source / f"{module}.rt").write_text(re.sub(r"^(fn run_program|struct )", r"pub(crate) \1", text, flags=re.M))
+        (source / f"{module}.rt").write_text(re.sub(r"^fn run_program", "pub(crate) fn run_program", text, flags=re.M))
 
 def combine(root):
     """Makes the crate layer_runs of a copy of the sources that program."""
