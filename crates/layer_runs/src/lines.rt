@@ -7,7 +7,7 @@ use std::io;
 
 /// What is printed where something could not be made.
 const FAILED: &str =
-    "no memory, or no such formula, task or file; or none of solve, check, watches, order, invariants, forms, rooms, formulas, all-formulas, never, drawn and all\n";
+    "no memory, or no such formula, task or file; or none of solve, check, watches, order, invariants, forms, rooms, formulas, all-formulas, never and all\n";
 
 /// What a run has written, and whether it made all that it had to.
 #[derive(Drop)]

@@ -7,8 +7,7 @@
 //! - `rooms ROOMS HORIZON SIZES` builds and sums up a large formula, and adds up the sizes of all horizons SIZES times;
 //! - `watches` makes literals true and takes them back over 100,000 clauses, `formulas` prints formulas of small tasks, clause by
 //!   clause, and `all-formulas` what is known of two formulas of all-steps;
-//! - `never` checks certificates that small tasks have no plan, and tells what excludes their goals, and `drawn` the same of tasks and
-//!   certificates that it draws;
+//! - `never` checks certificates that small tasks have no plan, and tells what excludes their goals;
 //! - `all` makes a run of each but `forms`, each under a line with its first word.
 //!
 //! The gate runs `all`. The file `stdout` is not this program's: scripts that read the definitions plainly wrote it, or it was worked
@@ -21,7 +20,6 @@
 
 mod all_formulas;
 mod dimacs;
-mod drawn;
 mod formulas;
 mod known;
 mod large_tasks;
@@ -42,7 +40,7 @@ use std::{env, fs, io};
 
 /// The runs of the word `all`.
 const ALL: &str =
-    "solve|check|watches|order none ring conditional|invariants takers|rooms 1000 95 1|formulas|all-formulas|never|drawn";
+    "solve|check|watches|order none ring conditional|invariants takers|rooms 1000 95 1|formulas|all-formulas|never";
 
 /// What a run has of the system.
 trait Host: Input + Files + AllocGlobal + Threads + Sync {}
@@ -108,7 +106,6 @@ fn run(rt: &impl Host, out: &mut Out, first: &str, others: &[String]) {
         "formulas" => formulas::put_tasks(out),
         "all-formulas" => all_formulas::put_tasks(rt, out),
         "never" => never::put_tasks(rt, out),
-        "drawn" => drawn::put_tasks(rt, out),
         _ => out.fail(),
     }
 }

@@ -3,7 +3,7 @@
 //! The facts are p and q, 1 and 2 in the texts. At first p alone is true, and both are the goal. The first action of each task
 //! moves p to q.
 
-ghost use Rattle.std.specs.Prelude.{◌≡◌, IfOk};
+ghost use Rattle.std.specs.Prelude.{◌≡◌};
 ghost use Rattle.gt_core.specs.Clauses.{IsKnownClauses};
 
 use crate::lines::{Out, put};
@@ -42,23 +42,19 @@ const TEXTS: [&str; 16] = [
     "weights\n1 2\n2 3\n1 -1\n",
 ];
 
-/// Writes at which clause an action does not pass.
-fn put_pair(out: &mut Out, way: &str, clause: u32, act: u32) {
-    put(out, way, &[]);
-    put(
-        out,
-        " clause # action #\n",
-        &[u64::from(clause), u64::from(act)],
-    );
-}
-
 /// Writes what comes of a forward set.
 fn put_forward(out: &mut Out, verdict: &ForwardVerdict) {
     match verdict {
         ForwardVerdict::Accepted => put(out, "forward accepted\n", &[]),
         ForwardVerdict::Initial(clause) => put(out, "forward initial #\n", &[u64::from(*clause)]),
         ForwardVerdict::Goal => put(out, "forward goal\n", &[]),
-        ForwardVerdict::Pair(clause, act) => put_pair(out, "forward", *clause, *act),
+        ForwardVerdict::Pair(clause, act) => {
+            put(
+                out,
+                "forward clause # action #\n",
+                &[u64::from(*clause), u64::from(*act)],
+            )
+        }
     }
 }
 
@@ -68,7 +64,13 @@ fn put_backward(out: &mut Out, verdict: &BackwardVerdict) {
         BackwardVerdict::Accepted => put(out, "backward accepted\n", &[]),
         BackwardVerdict::Initial => put(out, "backward initial\n", &[]),
         BackwardVerdict::Goal(clause) => put(out, "backward goal #\n", &[u64::from(*clause)]),
-        BackwardVerdict::Pair(clause, act) => put_pair(out, "backward", *clause, *act),
+        BackwardVerdict::Pair(clause, act) => {
+            put(
+                out,
+                "backward clause # action #\n",
+                &[u64::from(*clause), u64::from(*act)],
+            )
+        }
     }
 }
 
@@ -96,12 +98,7 @@ fn put_exclusion(out: &mut Out, by: &Exclusion) {
 }
 
 /// Checks a certificate.
-pub(crate) fn put_checked(
-    out: &mut Out,
-    task: &Task,
-    known: &Pairs,
-    text: &[u8],
-) -> Result<(), Memory>
+fn put_checked(out: &mut Out, task: &Task, known: &Pairs, text: &str) -> Result<(), Memory>
     requires facts { known.now.facts ≡ task.now.facts }
     requires known { IsKnownClauses known.now }
 {
@@ -109,7 +106,7 @@ pub(crate) fn put_checked(
     if text.len() > 1000 {
         return Ok(());
     }
-    match read(alloc, task.facts(), text)? {
+    match read(alloc, task.facts(), text.as_bytes())? {
         Reading::Forward(clauses) => put_forward(
             out,
             &check_forward(alloc, task, known, &clauses)?,
@@ -127,26 +124,14 @@ pub(crate) fn put_checked(
     Ok(())
 }
 
-/// Writes by what the goal of a task is excluded, and gives what was found for it.
-pub(crate) fn put_goal<R: Threads + Sync>(
-    rt: &R,
-    out: &mut Out,
-    task: &Task,
-) -> Result<Pairs, Memory>
-    ensures { IfOk result (λ known. known.facts ≡ task.now.facts) }
-{
-    let known = find(rt, out.alloc, task)?;
-    put_exclusion(out, &excluded_goal(out.alloc, task, &known)?);
-    Ok(known)
-}
-
 /// Checks the certificates with nothing known of the task, and finds by what its goal is excluded.
 fn put_task<R: Threads + Sync>(rt: &R, out: &mut Out, task: &Task) -> Result<(), Memory> {
     let none = Pairs::empty(out.alloc, task.facts())?;
     for text in TEXTS {
-        put_checked(out, task, &none, text.as_bytes())?;
+        put_checked(out, task, &none, text)?;
     }
-    put_goal(rt, out, task)?;
+    let known = find(rt, out.alloc, task)?;
+    put_exclusion(out, &excluded_goal(out.alloc, task, &known)?);
     Ok(())
 }
 
